@@ -1,0 +1,112 @@
+//! What the comparison of one op counts and says.
+
+use std::fmt::Write as _;
+use std::io::{self, IsTerminal, Write as _};
+
+use crate::case::Case;
+use crate::intended;
+
+/// Argument bytes that a named difference shows at most.
+const SHOWN_BYTES: usize = 400;
+
+pub struct Tally {
+    pub op: u8,
+    pub cases: u64,
+    pub lines: u64,
+    pub differences: u64,
+    /// Scripts held against the model of the division, and how many of them differed.
+    pub modelled: u64,
+    pub model_differences: u64,
+    /// Lines that differ as the table of intended differences says, by entry.
+    pub intended: Vec<u64>,
+}
+
+impl Tally {
+    pub fn new(op: u8) -> Self {
+        Self {
+            op,
+            cases: 0,
+            lines: 0,
+            differences: 0,
+            modelled: 0,
+            model_differences: 0,
+            intended: vec![0; intended::TABLE.len()],
+        }
+    }
+
+    pub fn clean(&self) -> bool {
+        self.differences == 0 && self.model_differences == 0
+    }
+
+    /// Counts a line that differs; the first is named with its bytes.
+    pub fn difference(&mut self, case: Option<Case<'_>>, expected: &str, got: &str) {
+        if let Some(entry) = case.and_then(|case| intended::entry(intended::TABLE, case)) {
+            self.intended[entry] += 1;
+            return;
+        }
+        if self.differences == 0 {
+            self.end_progress();
+            println!("first difference of op {}", self.op);
+            name(case, expected, got);
+        }
+        self.differences += 1;
+    }
+
+    /// Counts a script on which the model of the division and the original disagree; the first is named.
+    pub fn model_difference(&mut self, case: Case<'_>, original: &str, model: &str) {
+        if self.model_differences == 0 {
+            self.end_progress();
+            println!("the model of the division differs from the original, op {}", self.op);
+            name(Some(case), original, model);
+        }
+        self.model_differences += 1;
+    }
+
+    pub fn summary(&self) -> String {
+        let what = if self.op == 0 { "ends of input".to_owned() } else { format!("op {}", self.op) };
+        let mut text = format!("{what}: {} cases, {} lines, {} differences", self.cases, self.lines, self.differences);
+        if self.modelled > 0 {
+            let _ = write!(
+                text,
+                "; {} scripts held against the model of the division, {} differences",
+                self.modelled, self.model_differences
+            );
+        }
+        text
+    }
+
+    /// A line that is written over, on a terminal alone.
+    pub fn progress(&self) {
+        if io::stderr().is_terminal() {
+            eprint!("\rop {}: {} cases ", self.op, self.cases);
+            let _ = io::stderr().flush();
+        }
+    }
+
+    pub fn end_progress(&self) {
+        if io::stderr().is_terminal() {
+            eprint!("\r{:40}\r", "");
+        }
+    }
+}
+
+fn name(case: Option<Case<'_>>, expected: &str, got: &str) {
+    match case {
+        Some(case) => println!("  case:     op {}, {}", case.op, shown(case.argument)),
+        None => println!("  case:     none, behind the last answer"),
+    }
+    println!("  expected: {}", expected.trim_end());
+    println!("  got:      {}", got.trim_end());
+}
+
+/// The argument in hexadecimal; of a long one the first bytes.
+fn shown(argument: &[u8]) -> String {
+    let mut text = format!("{} bytes:", argument.len());
+    for byte in argument.iter().take(SHOWN_BYTES) {
+        let _ = write!(text, " {byte:02X}");
+    }
+    if argument.len() > SHOWN_BYTES {
+        text.push_str(" ..");
+    }
+    text
+}

@@ -1,0 +1,54 @@
+//! The fixed list: a few thousand cases that reach every check from both sides, for the gate to replay.
+
+mod readers;
+mod streams;
+mod writers;
+
+use std::fs;
+use std::io;
+use std::path::Path;
+
+use crate::case::Case;
+use crate::generate::random::Random;
+use crate::oracle;
+
+/// The listed arguments of an op, the same at every call.
+pub fn arguments(op: u8) -> Vec<Vec<u8>> {
+    let random = &mut Random::new(0, op);
+    match op {
+        1 => readers::target_states(),
+        2 => readers::reports(random),
+        3 => readers::acks(random),
+        4 => readers::replies(random),
+        5 => readers::frames(random),
+        6 => writers::commands(),
+        7 => writers::report_values(random),
+        8 => writers::ack_values(random),
+        9 => writers::command_frames(),
+        10 => streams::scripts(random),
+        11 => streams::lent_scripts(),
+        12 => writers::rates(),
+        13 => streams::built_parsers(random),
+        14 => readers::built_acks(random),
+        _ => Vec::new(),
+    }
+}
+
+/// Writes the list of these ops to `stdin` and its answers to `stdout` in a directory. Its last case is cut short.
+pub fn write(directory: &Path, ops: &[u8]) -> io::Result<bool> {
+    let mut input = Vec::new();
+    for &op in ops {
+        for argument in arguments(op) {
+            Case { op, argument: &argument }.write(&mut input);
+        }
+    }
+    Case { op: 0, argument: &[] }.write(&mut input);
+    input.extend([1, 2, 0, 0, 0, 3]);
+    let answers = oracle::answers(&input);
+    fs::create_dir_all(directory)?;
+    fs::write(directory.join("stdin"), &input)?;
+    fs::write(directory.join("stdout"), &answers)?;
+    let lines = answers.iter().filter(|&&byte| byte == b'\n').count();
+    println!("{} bytes of cases, {lines} lines of answers", input.len());
+    Ok(true)
+}

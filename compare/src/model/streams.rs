@@ -1,0 +1,150 @@
+//! The answers to a script by the division of document 01: what each call takes and delivers, the counters as sums
+//! over pieces, and the unfinished length.
+
+use ld2410::access::Fields as ParserFields;
+use ld2410::{Frame, Parser, Stats};
+use std::ops::Range;
+
+use super::division::{next_piece, Piece, LIMIT};
+use super::families::{COMMAND, REPORT};
+use crate::case::Case;
+use crate::line::Line;
+use crate::oracle::streams::{built_parser, closing_line, in_range};
+use crate::oracle::values::{self, address};
+use crate::script::{calls, Call};
+
+/// The rules of the model, each one replaceable, so that the self-check can put a wrong one in its place.
+pub struct Rules {
+    /// The piece at the front of the rest of a stretch, and its length.
+    pub next_piece: fn(&[u8]) -> (Piece, usize),
+    /// A counter after that many more.
+    pub add: fn(u32, usize) -> u32,
+    /// Whether a parser built by hand is taken as it stands.
+    pub in_range: fn(&ParserFields) -> bool,
+}
+
+/// Document 01's rules.
+pub const RULES: Rules = Rules {
+    next_piece: |rest| next_piece(rest, LIMIT),
+    add: |counter, by| (u64::from(counter) + by as u64).min(u32::MAX.into()) as u32,
+    in_range,
+};
+
+/// Appends the answer lines of a script of ops 10, 11 and 13; none for a parser that cannot be built.
+pub fn answer(case: Case<'_>, rules: &Rules, out: &mut Vec<u8>) -> Option<()> {
+    let (pending, stats, script) = if case.op == 13 {
+        let (parser, script) = built_parser(case.argument)?;
+        if parser.state > 3 || parser.kind > 1 {
+            return None;
+        }
+        (pending(&parser, rules), parser.stats, script)
+    } else {
+        (Vec::new(), Parser::new().stats(), case.argument)
+    };
+    let mut stream = Stream { rules, stretches: vec![pending], divided: 0 };
+    for call in calls(script) {
+        stream.call(case.op, call, out);
+    }
+    let (stats, unfinished) = stream.totals(stats);
+    closing_line(case.op, stats, unfinished, out);
+    Some(())
+}
+
+/// The open string that a parser stands for: empty for one out of range, which is handled as if reset came first.
+fn pending(parser: &ParserFields, rules: &Rules) -> Vec<u8> {
+    if !(rules.in_range)(parser) {
+        return Vec::new();
+    }
+    let family = if parser.kind == 0 { REPORT } else { COMMAND };
+    let length = (parser.len as u16).to_le_bytes();
+    let matched = parser.matched.min(4);
+    let data = &parser.buf[..parser.pos.min(parser.buf.len())];
+    match parser.state {
+        0 => family.header[..matched].to_vec(),
+        1 => [&family.header, &length[..matched.min(2)]].concat(),
+        2 => [&family.header, &length[..], data].concat(),
+        _ => [&family.header, &length[..], data, &family.tail[..matched]].concat(),
+    }
+}
+
+struct Stream<'a> {
+    rules: &'a Rules,
+    /// The bytes taken, a stretch for each reset and one more.
+    stretches: Vec<Vec<u8>>,
+    /// How much of the last stretch is divided: all but an unfinished end. More bytes do not change these pieces,
+    /// since each depends on its own bytes and the one behind it.
+    divided: usize,
+}
+
+impl Stream<'_> {
+    fn call(&mut self, op: u8, call: Call<'_>, out: &mut Vec<u8>) {
+        let (taken, frame) = match call {
+            Call::Feed(byte) => self.take(&[byte]),
+            Call::Slice(bytes) => self.take(bytes),
+            Call::Reset => {
+                self.stretches.push(Vec::new());
+                self.divided = 0;
+                (0, None)
+            }
+        };
+        let stretch = self.stretches.last().expect("a stretch is always there");
+        let frame = frame.map(|place| &stretch[place]);
+        let delivered = frame.and_then(|bytes| Frame::parse(bytes).ok());
+        let mut line = Line::new(out, op);
+        values::call(&mut line, taken, delivered.as_ref(), frame.map_or(0, buffer_base));
+        line.end();
+    }
+
+    /// Takes the slice up to the end of the first whole frame that ends at a byte of it, else all of it: the count,
+    /// and the frame's place in the stretch.
+    fn take(&mut self, slice: &[u8]) -> (usize, Option<Range<usize>>) {
+        let stretch = self.stretches.last_mut().expect("a stretch is always there");
+        let before = stretch.len();
+        stretch.extend(slice);
+        while self.divided < stretch.len() {
+            let start = self.divided;
+            let (piece, length) = (self.rules.next_piece)(&stretch[start..]);
+            if piece == Piece::UnfinishedEnd {
+                break;
+            }
+            self.divided += length;
+            if piece == Piece::WholeFrame {
+                stretch.truncate(self.divided);
+                return (self.divided - before, Some(start..self.divided));
+            }
+        }
+        (slice.len(), None)
+    }
+
+    /// The counters, summed over the pieces of every stretch, and the length of the last one's unfinished end.
+    fn totals(&self, mut stats: Stats) -> (Stats, usize) {
+        let add = self.rules.add;
+        let mut unfinished = 0;
+        for stretch in &self.stretches {
+            unfinished = 0;
+            let mut rest = &stretch[..];
+            while !rest.is_empty() {
+                let (piece, length) = (self.rules.next_piece)(rest);
+                match piece {
+                    Piece::Stray => stats.dropped = add(stats.dropped, 1),
+                    Piece::BrokenStart => {
+                        stats.resyncs = add(stats.resyncs, 1);
+                        stats.dropped = add(stats.dropped, length);
+                    }
+                    Piece::WholeFrame if Frame::parse(&rest[..length]).is_ok() => {
+                        stats.frames = add(stats.frames, 1);
+                    }
+                    Piece::WholeFrame => stats.malformed = add(stats.malformed, 1),
+                    Piece::UnfinishedEnd => unfinished = length,
+                }
+                rest = &rest[length..];
+            }
+        }
+        (stats, unfinished)
+    }
+}
+
+/// Where a payload's start is counted from: the parser's buffer holds the data, which stand behind header and length.
+fn buffer_base(frame: &[u8]) -> usize {
+    address(&frame[6..])
+}

@@ -1,0 +1,72 @@
+//! The command line.
+
+use std::path::PathBuf;
+
+use crate::generate::OPS;
+
+pub const USAGE: &str = "\
+usage: compare/run [--original FILE] [options]
+  without a mode          run the generated cases through our program and hold its answers against the original's
+  --self-check            hold wrong variants against the original: each must be noticed
+  --write-list DIR        write the fixed list of cases and answers to DIR/stdin and DIR/stdout
+  --answer                answer the cases on standard input, as our program does
+options
+  --original FILE         the original Rust file
+  --ours PROGRAM          our program (default target/bin/replay)
+  --ops 1,2,3             these ops alone (default: all)
+  --seed N                seed of the random cases (default 1)
+  --scale N               one random case for N at full scale (default 1, the self-check's 100)";
+
+pub enum Mode {
+    Compare,
+    SelfCheck,
+    WriteList(PathBuf),
+    Answer,
+    Help,
+}
+
+pub struct Options {
+    pub mode: Mode,
+    pub ours: PathBuf,
+    pub ops: Vec<u8>,
+    pub seed: u64,
+    pub scale: Option<u64>,
+}
+
+/// The options, or what is wrong with them.
+pub fn parse(mut arguments: impl Iterator<Item = String>) -> Result<Options, String> {
+    let mut options = Options {
+        mode: Mode::Compare,
+        ours: PathBuf::from("target/bin/replay"),
+        ops: OPS.to_vec(),
+        seed: 1,
+        scale: None,
+    };
+    while let Some(name) = arguments.next() {
+        let mut value = || arguments.next().ok_or(format!("{name} needs a value"));
+        match name.as_str() {
+            "--ours" => options.ours = value()?.into(),
+            "--ops" => options.ops = ops(&value()?)?,
+            "--seed" => options.seed = number(&value()?)?,
+            "--scale" => options.scale = Some(number(&value()?)?.max(1)),
+            "--self-check" => options.mode = Mode::SelfCheck,
+            "--write-list" => options.mode = Mode::WriteList(value()?.into()),
+            "--answer" => options.mode = Mode::Answer,
+            "--help" => options.mode = Mode::Help,
+            _ => return Err(format!("no option {name}; --help lists them")),
+        }
+    }
+    Ok(options)
+}
+
+fn number(text: &str) -> Result<u64, String> {
+    text.parse().map_err(|_| format!("not a number: {text}"))
+}
+
+fn ops(text: &str) -> Result<Vec<u8>, String> {
+    let op = |text: &str| {
+        let op = text.parse().ok().filter(|op| OPS.contains(op));
+        op.ok_or(format!("not an op: {text}"))
+    };
+    text.split(',').map(op).collect()
+}

@@ -1,0 +1,80 @@
+-- `ack::Ack::checked` meets its contract: what was read says how many bytes there are, and whether the bit is set.
+-- Assumes nothing.
+use borrow.Author.Needs.{needs}
+use mathlib.Core.Path.{sym, _∙_}
+use native.Mathlib.Omega.{arith}
+use Rattle.wire.proofs.Numbers.{le16-some, le16-none}
+use Rattle.ack.specs.Ack.{ackOf}
+use Rattle.ack.proofs.Reading.{checked-short, checked-clear, checked-set}
+use Rattle.ack.proofs.Ack.checked.Statement.{statement}
+use Rattle.ack.proofs.Ack.checked.Tie as tie
+
+le16-requires : tie.Need-le16-requires
+le16-requires c κs = search needs
+
+enum-known-raw : tie.Need-enum-known-raw
+enum-known-raw c = search needs
+
+enum-told : tie.Need-enum-told
+enum-told c = search needs
+
+returns : tie.Need-returns
+returns c =
+    let short = le16-none _ _ (sym (c .before .before .le16 .ensures) ∙ c .enum-told .given .1) in
+    sym (checked-short _ (omega arith))
+
+le16-requires-2 : tie.Need-le16-requires-2
+le16-requires-2 c κs = search needs
+
+enum-known-status : tie.Need-enum-known-status
+enum-known-status c = search needs
+
+enum-told-2 : tie.Need-enum-told-2
+enum-told-2 c = search needs
+
+returns-2 : tie.Need-returns-2
+returns-2 c =
+    let short = le16-none _ _ (sym (c .before .before .le162 .ensures) ∙ c .enum-told2 .given .1) in
+    sym (checked-short _ (omega arith))
+
+returns-3 : tie.Need-returns-3
+returns-3 c =
+    let there = c .before .before .before .before in
+    let status = le16-some _ _ _ (sym (there .le162 .ensures) ∙ c .before .before .status .given .1) in
+    let word = le16-some _ _ _ (sym (there .before .before .before .before .le16 .ensures)
+    ∙ there .before .before .raw .given .1) in
+    sym (checked-clear _ (omega arith) (rw (← word .value) (c .if1 .taken)))
+
+sub-t8 : tie.Need-sub-t8
+sub-t8 c = search needs
+
+sub-t13 : tie.Need-sub-t13
+sub-t13 c =
+    let there = c .before .before .before .before in
+    omega (arith, le16-some _ _ _ (sym (there .le162 .ensures) ∙ c .before .before .status .given .1) .inside)
+
+returns-4 : tie.Need-returns-4
+unfolding ackOf
+returns-4 c =
+    let there = c .before .before .before .before in
+    let status = le16-some _ _ _ (sym (there .le162 .ensures) ∙ c .before .before .status .given .1) in
+    let word = le16-some _ _ _ (sym (there .before .before .before .before .le16 .ensures)
+    ∙ there .before .before .raw .given .1) in
+    rw (word .value, status .value) (sym (checked-set _ (omega arith) (rw (← word .value) (c .if1 .left))))
+
+pub checked-spec : {M : Type 1} → statement M
+checked-spec =
+    tie.close
+    (tie.spec
+    le16-requires
+    enum-known-raw
+    enum-told
+    returns
+    le16-requires-2
+    enum-known-status
+    enum-told-2
+    returns-2
+    returns-3
+    sub-t8
+    sub-t13
+    returns-4)

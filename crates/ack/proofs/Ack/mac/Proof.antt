@@ -1,0 +1,52 @@
+-- `ack::Ack::mac` meets its contract, by what `expect` answers. Assumes nothing.
+use borrow.Author.Needs.{needs}
+use mathlib.Core.Path.{sym, _∙_}
+use Rattle.ack.specs.Replies.{macReply, macAs}
+use Rattle.ack.proofs.Awaiting.{replied-read, replied-refused}
+use Rattle.ack.proofs.Answers.{mac-outcome}
+use Rattle.ack.proofs.Ack.mac.Statement.{statement}
+use Rattle.ack.proofs.Ack.mac.Tie as tie
+
+expect-requires : tie.Need-expect-requires
+expect-requires c κs = search needs
+
+enum-known-span : tie.Need-enum-known-span
+enum-known-span c = search needs
+
+payload-requires : tie.Need-payload-requires
+payload-requires c κs = search needs
+
+read-requires : tie.Need-read-requires
+read-requires c κs = search needs
+
+enum-known-error : tie.Need-enum-known-error
+enum-known-error c = search needs
+
+refused-requires : tie.Need-refused-requires
+refused-requires c κs = search needs
+
+returns : tie.Need-returns
+returns c =
+    replied-read macAs (λ r. r .outcome) mac-outcome macReply _ _
+    (sym (c .before .before .before .before .before .expect .ensures .0) ∙ c .before .before .before .span .given .1)
+    (c .before .payload .ensures)
+    (c .read .ensures)
+
+returns-2 : tie.Need-returns-2
+returns-2 c =
+    replied-refused macAs (λ r. r .outcome) mac-outcome macReply _ _
+    (sym (c .before .before .before .before .expect .ensures .0) ∙ c .before .before .error .given .1)
+    (c .refused .ensures)
+
+pub mac-spec : {M : Type 1} → statement M
+mac-spec =
+    tie.close
+    (tie.spec
+    expect-requires
+    enum-known-span
+    payload-requires
+    read-requires
+    enum-known-error
+    refused-requires
+    returns
+    returns-2)

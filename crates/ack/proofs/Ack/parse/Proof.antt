@@ -1,0 +1,32 @@
+-- `ack::Ack::parse` meets its contract, as `checked` answers. Assumes nothing.
+use borrow.Author.Needs.{needs}
+use mathlib.Core.Path.{refl, sym, ap, _∙_}
+use Rattle.ack.specs.declared.AckResult.the-variants.{Err}
+use Rattle.ack.proofs.Reading.{parsed-whole}
+use Rattle.ack.proofs.Ack.parse.Statement.{statement}
+use Rattle.ack.proofs.Ack.parse.Tie as tie
+
+checked-requires : tie.Need-checked-requires
+checked-requires c κs = search needs
+
+enum-known-ack : tie.Need-enum-known-ack
+enum-known-ack c = search needs
+
+enum-known-check : tie.Need-enum-known-check
+enum-known-check c = search needs
+
+error-requires : tie.Need-error-requires
+error-requires c κs = search needs
+
+returns : tie.Need-returns
+returns c = parsed-whole _ (sym (c .before .before .before .checked .ensures) ∙ c .before .ack .given .1) refl
+
+returns-2 : tie.Need-returns-2
+returns-2 c =
+    parsed-whole _ (sym (c .before .before .before .before .checked .ensures) ∙ c .before .before .check .given .1)
+    (ap Err (c .error .ensures))
+
+pub parse-spec : {M : Type 1} → statement M
+parse-spec =
+    tie.close
+    (tie.spec checked-requires enum-known-ack enum-known-check error-requires returns returns-2)

@@ -1,0 +1,141 @@
+-- Awaiting an acknowledgement, with the cause of each number; and its reply, whichever it is, by what `expect` answers.
+use mathlib.Core.Path.{_≡_, refl, sym, _∙_}
+use mathlib.Core.Logic.{_≢_, inl, inr, ⊎-elim}
+use mathlib.Core.List.{List}
+use mathlib.Core.Bool.{Bool, true, false, true≢false}
+use Prim.Native.Nat.{ℕ, _≤_, _<_}
+use native.Mathlib.Omega.{arith}
+use lib.Dec.{eqb}
+use lib.ListN.{length}
+use borrow.Author.Tests.{eqb-true, eqb-false, eq-eqb, ne-eqb, le-leb, lt-leb}
+use Rattle.wire.specs.declared.Error.{Error}
+use Rattle.wire.specs.declared.Error.the-variants.{InvalidFormat, Hardware}
+use Rattle.wire.specs.declared.Outcome.{Outcome}
+use Rattle.wire.specs.declared.Outcome.the-variants.{Ok, Err}
+use Rattle.ack.specs.Reply.{payloadIn, judged, awaited, AwaitedCauses, spanAs, outcomeOfSpan, expected}
+use Rattle.ack.specs.Reply.{Reply, sized, readAs, replied, ReplyCauses}
+use Rattle.ack.specs.declared.Ack.{Ack}
+use Rattle.ack.specs.declared.Span.{Span}
+use Rattle.ack.specs.declared.SpanResult.{SpanResult}
+use Rattle.ack.specs.declared.SpanResult.the-variants as Spanned
+
+clash : {A : Type 0} {b : Bool} → b ≡ true → b ≡ false → A
+clash e f = absurd (true≢false (sym e ∙ f))
+
+-- What `expect` answers tells how every reply is judged.
+judged-ok : (same ok : Bool) (p : Span) {q : Span} → spanAs (judged same ok true) p ≡ Spanned.Ok q
+    → ((fits : Bool) → judged same ok fits ≡ judged true true fits) × (q ≡ p)
+judged-ok false ok p e = let z : _≡_ {A = ℕ} 0 1 = cc in absurd (omega arith)
+judged-ok true false p e = let z : _≡_ {A = ℕ} 0 1 = cc in absurd (omega arith)
+judged-ok true true p e = (λ fits. refl, cc)
+
+judged-err : (same ok : Bool) (p : Span) {e : Error} → spanAs (judged same ok true) p ≡ Spanned.Err e
+    → (fits : Bool) → judged same ok fits ≡ Err e
+judged-err false ok p q fits = cc
+judged-err true false p q fits = cc
+judged-err true true p q fits = let z : _≡_ {A = ℕ} 0 1 = cc in absurd (omega arith)
+
+module _ (a : Ack) (w : ℕ) where
+  judged-causes : (same ok fits : Bool) → eqb (a .word) w ≡ same → a .ok ≡ ok
+      → AwaitedCauses a w fits (judged same ok fits)
+  judged-causes false ok fits e f =
+      let other : a .word ≢ w = eqb-false (a .word) w e in
+      record {
+        accepted = (λ z. absurd (omega arith), λ h. absurd (other (h .0)));
+        invalid = (λ z. inl other, λ h. refl);
+        hardware = (λ z. absurd (omega arith), λ h. absurd (other (h .0)));
+      }
+  judged-causes true false fits e f =
+      let same = eqb-true (a .word) w e in
+      record {
+        accepted = (λ z. absurd (omega arith), λ h. clash (h .1) f);
+        invalid = (λ z. absurd (omega arith), ⊎-elim (λ h. absurd (h same)) (λ h. clash (h .1) f));
+        hardware = (λ z. (same, f), λ h. refl);
+      }
+  judged-causes true true false e f =
+      let same = eqb-true (a .word) w e in
+      record {
+        accepted = (λ z. absurd (omega arith), λ h. clash (h .2) refl);
+        invalid = (λ z. inr (same, f, refl), λ h. refl);
+        hardware = (λ z. absurd (omega arith), λ h. clash f (h .1));
+      }
+  judged-causes true true true e f =
+      let same = eqb-true (a .word) w e in
+      record {
+        accepted = (λ z. (same, f, refl), λ h. refl);
+        invalid = (λ z. absurd (omega arith), ⊎-elim (λ h. absurd (h same)) (λ h. clash refl (h .2)));
+        hardware = (λ z. absurd (omega arith), λ h. clash f (h .1));
+      }
+
+  -- Whoever awaits a word gives each number exactly in its cause.
+  pub awaited-causes : (fits : Bool) → AwaitedCauses a w fits (awaited a w fits)
+  unfolding awaited
+  awaited-causes fits = judged-causes (eqb (a .word) w) (a .ok) fits refl refl
+
+  -- What `expect` answers.
+  pub expected-other : a .word ≢ w → expected a w ≡ Spanned.Err InvalidFormat
+  unfolding expected awaited
+  expected-other h = rw (ne-eqb (a .word) w h)
+
+  pub expected-failed : a .word ≡ w → a .ok ≡ false → expected a w ≡ Spanned.Err Hardware
+  unfolding expected awaited
+  expected-failed h e = rw (eq-eqb (a .word) w h, e)
+
+  pub expected-given : a .word ≡ w → a .ok ≡ true → expected a w ≡ Spanned.Ok (a .payload)
+  unfolding expected awaited
+  expected-given h e = rw (eq-eqb (a .word) w h, e)
+
+  span-outcome : (o : Outcome) → outcomeOfSpan (spanAs o (a .payload)) ≡ o
+  span-outcome Ok = refl
+  span-outcome (Err e) = refl
+
+  -- Both clauses of its contract.
+  pub expected-whole : {r : SpanResult} → expected a w ≡ r
+      → (r ≡ expected a w) × AwaitedCauses a w true (outcomeOfSpan r)
+  unfolding expected
+  expected-whole e = (sym e, rw (← e, span-outcome (awaited a w true)) (awaited-causes true))
+
+-- A payload read as a reply: it is readable, or it is refused.
+module _ {A B : Type 0} (answer : Outcome → A → B) (r : Reply A) (p : List ℕ) where
+  pub read-fits : r .fits p ≡ true → readAs answer r p ≡ answer Ok (r .value p)
+  unfolding readAs
+  read-fits e = rw e
+
+  pub read-refused : r .fits p ≡ false → readAs answer r p ≡ answer (Err InvalidFormat) (r .value p)
+  unfolding readAs
+  read-refused e = rw e
+
+-- The same of a reply in n bytes.
+module _ {A B : Type 0} (answer : Outcome → A → B) (w n : ℕ) (value : List ℕ → A) (p : List ℕ) where
+  pub sized-long : n ≤ length p → readAs answer (sized w n value) p ≡ answer Ok (value p)
+  sized-long h = read-fits answer (sized w n value) p (le-leb n (length p) h)
+
+  pub sized-short : length p < n → readAs answer (sized w n value) p ≡ answer (Err InvalidFormat) (value p)
+  sized-short h = read-refused answer (sized w n value) p (lt-leb n (length p) h)
+
+-- The answer to an acknowledgement, where `outcome` is an answer's outcome.
+module _ {A B : Type 0} (answer : Outcome → A → B) (outcome : B → Outcome)
+    (outcome-of : (o : Outcome) (v : A) → outcome (answer o v) ≡ o) (r : Reply A) (a : Ack) (s : List ℕ) where
+  -- Both clauses of its contract.
+  abbrev Whole : B → Type 0
+  Whole b = (b ≡ replied answer r a s) × ReplyCauses r a s (outcome b)
+
+  whole : {b : B} → b ≡ replied answer r a s → Whole b
+  unfolding replied
+  whole e = (e, rw (e, outcome-of) (awaited-causes a (r .word) (r .fits (payloadIn s (a .payload)))))
+
+  -- Where `expect` gives the payload, it is read.
+  pub replied-read : {b : B} {p : Span} {q : List ℕ} → expected a (r .word) ≡ Spanned.Ok p → q ≡ payloadIn s p
+      → b ≡ readAs answer r q → Whole b
+  unfolding expected awaited readAs replied
+  replied-read e f g =
+      let told = judged-ok (eqb (a .word) (r .word)) (a .ok) (a .payload) e in
+      whole (rw (g, f, told .1, told .0 (r .fits (payloadIn s (a .payload)))))
+
+  -- Where `expect` refuses, so does the reply.
+  pub replied-refused : {b : B} {e : Error} → expected a (r .word) ≡ Spanned.Err e
+      → b ≡ answer (Err e) (r .value (payloadIn s (a .payload))) → Whole b
+  unfolding expected awaited replied
+  replied-refused e g =
+      let told = judged-err (eqb (a .word) (r .word)) (a .ok) (a .payload) e in
+      whole (rw (g, told (r .fits (payloadIn s (a .payload)))))

@@ -1,0 +1,11 @@
+-- Laws about the definitions, which the proofs of this crate and of the crates above cite.
+-- What an acknowledgement's data are read as, by their checks.
+pub mod Reading
+-- A payload inside the bytes, and one that is not.
+pub mod Spans
+-- Awaiting an acknowledgement and reading its reply, whichever it is.
+pub mod Awaiting
+-- A parameters payload: how it begins, and what it is read as.
+pub mod Sensitivities
+-- The outcome of an answer is the one that it was made of.
+pub mod Answers

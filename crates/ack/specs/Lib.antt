@@ -1,0 +1,3 @@
+pub mod Ack
+pub mod Reply
+pub mod Replies

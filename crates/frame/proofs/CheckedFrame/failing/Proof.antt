@@ -1,0 +1,15 @@
+use borrow.Author.Needs.{needs}
+use Rattle.frame.proofs.CheckedFrame.failing.Statement.{statement}
+use Rattle.frame.proofs.CheckedFrame.failing.Tie as tie
+use Rattle.frame.proofs.CheckedFrame.failing.Reads as reads
+use Rattle.frame.proofs.CheckedFrame.failing.Lts as lts
+use Rattle.frame.proofs.Frame.none.Reads as none-reads
+
+none-requires : tie.Need-none-requires
+none-requires c κs = search needs
+
+returns : tie.Need-returns
+returns c = rw (c .none .ensures)
+
+pub failing-spec : {M : Type 1} → statement M
+failing-spec = tie.close (tie.spec none-requires returns)

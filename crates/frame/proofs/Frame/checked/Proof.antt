@@ -1,0 +1,185 @@
+use mathlib.Core.Path.{_≡_, sym, ap, _∙_}
+use Prim.Native.Nat.{ℕ, _+_, _-_}
+use native.Mathlib.Omega.{arith}
+use mathlib.Core.List.{List}
+use lib.ListN.{take, drop}
+use lib.Seq.{length-take-le}
+use denote.Ref.{now}
+use borrow.Author.Tests.{not-true, not-false}
+use borrow.Rule.Slice.PartAt.{part-to-end}
+use Rattle.wire.proofs.Numbers.{There, le16-some, le16-none}
+use Rattle.wire.specs.declared.MaybeKind.the-variants as Found
+use Rattle.frame.specs.Frame.{family, announced, decoded}
+use Rattle.frame.proofs.Answers.{short-family, fails-F1, fails-F2, fails-F3, fails-F4, passes-framing}
+use borrow.Author.Needs.{needs}
+use Rattle.frame.proofs.Frame.checked.Statement.{statement}
+use Rattle.frame.proofs.Frame.checked.Tie as tie
+use Rattle.frame.proofs.Frame.checked.Reads as reads
+use Rattle.frame.proofs.Frame.checked.Lts as lts
+use Rattle.frame.proofs.CheckedFrame.failing.Reads as failing-reads
+use Rattle.frame.proofs.Frame.decode_at.Reads as decode-at-reads
+use Rattle.wire.proofs.Kind.of_header.Reads as of-header-reads
+use Rattle.wire.proofs.Kind.tail.Reads as tail-reads
+use Rattle.wire.proofs.le16.Reads as le16-reads
+use Rattle.wire.proofs.same.Reads as same-reads
+
+failing-requires : tie.Need-failing-requires
+failing-requires c κs = search needs
+
+-- The bytes, from two places on the way.
+abbrev bytes : tie.After-known-told → List ℕ
+bytes c = now (c .before .before .before .before .before .before .before .args .bytes)
+
+-- The family that the header announces.
+announces : (c : tie.After-known-told) → family (bytes c) ≡ Found.Some (c .before .kind .given .0 .0)
+announces c = sym (c .before .before .before .of-header .ensures) ∙ c .before .kind .given .1
+
+-- The two length bytes, and the length that they are.
+length-there : (c : tie.After-known-told2) → There 2 (bytes (c .before .before .before .before)) 4 (c .before .len .given .0 .0)
+length-there c = le16-some _ 4 _ (sym (c .before .before .before .le16 .ensures) ∙ c .before .len .given .1)
+
+returns : tie.Need-returns
+returns c = c .failing .ensures ∙ sym (fails-F1 _ (short-family (now (c .before .before .before .args .bytes)) (c .before .if1 .taken)))
+
+slice-aggregate-of-header : tie.Need-slice-aggregate-of-header
+slice-aggregate-of-header c = sym (length-take-le 4 (now (c .before .before .before .args .bytes)) (c .before .if1 .left))
+
+of-header-requires : tie.Need-of-header-requires
+of-header-requires c κs = search needs
+
+enum-known-kind : tie.Need-enum-known-kind
+enum-known-kind c = search needs
+
+enum-told : tie.Need-enum-told
+enum-told c = search needs
+
+failing-requires-2 : tie.Need-failing-requires-2
+failing-requires-2 c κs = search needs
+
+returns-2 : tie.Need-returns-2
+returns-2 c =
+    c .failing2 .ensures
+    ∙ sym (fails-F1 _ (sym (c .before .before .before .of-header .ensures) ∙ c .before .enum-told .given .1))
+
+le16-requires : tie.Need-le16-requires
+le16-requires c κs = search needs
+
+enum-known-len : tie.Need-enum-known-len
+enum-known-len c = search needs
+
+enum-told-2 : tie.Need-enum-told-2
+enum-told-2 c = search needs
+
+failing-requires-3 : tie.Need-failing-requires-3
+failing-requires-3 c κs = search needs
+
+returns-3 : tie.Need-returns-3
+returns-3 c =
+    c .failing3 .ensures ∙ sym (fails-F2 _ _ (announces (c .before .before .before .before))
+    (le16-none _ 4 (sym (c .before .before .before .le16 .ensures) ∙ c .before .enum-told2 .given .1)))
+
+cast-end : tie.Need-cast-end
+cast-end c = search needs
+
+add-end : tie.Need-add-end
+add-end c = search needs
+
+failing-requires-4 : tie.Need-failing-requires-4
+failing-requires-4 c κs = search needs
+
+returns-4 : tie.Need-returns-4
+returns-4 c =
+    let at = length-there (c .before .before) in
+    c .failing4 .ensures ∙ sym (fails-F3 _ _ (announces (c .before .before .before .before .before .before)) (at .inside)
+    (omega (arith, at .value, c .before .if2 .taken)))
+
+tail-requires : tie.Need-tail-requires
+tail-requires c κs = search needs
+
+sub-same : tie.Need-sub-same
+sub-same c = search needs
+
+part-same-start : tie.Need-part-same-start
+part-same-start c = search needs
+
+part-same-end : tie.Need-part-same-end
+part-same-end c = search needs
+
+slice-aggregate-same : tie.Need-slice-aggregate-same
+slice-aggregate-same c = search needs
+
+same-requires : tie.Need-same-requires
+same-requires c κs = search needs
+
+failing-requires-5 : tie.Need-failing-requires-5
+failing-requires-5 c κs = search needs
+
+returns-5 : tie.Need-returns-5
+returns-5 c =
+    let at = length-there (c .before .before .before .before .before .before .before) in
+    let last = sym (c .before .before .same .ensures) ∙ not-true _ (c .before .if3 .taken) in
+    c .failing5 .ensures ∙ sym (fails-F4 _ _ (announces (c .before .before .before .before .before .before .before .before .before .before .before)) (at .inside)
+    (omega (arith, at .value, c .before .before .before .before .before .before .if2 .left))
+    (rw (part-to-end, c .before .before .before .before .before .tail .ensures, at .value) at last))
+
+sub-decode-at : tie.Need-sub-decode-at
+sub-decode-at c = search needs
+
+part-decode-at-start : tie.Need-part-decode-at-start
+part-decode-at-start c = search needs
+
+part-decode-at-end : tie.Need-part-decode-at-end
+part-decode-at-end c = search needs
+
+add-decode-at : tie.Need-add-decode-at
+add-decode-at c = search needs
+
+decode-at-requires : tie.Need-decode-at-requires
+decode-at-requires c κs = search needs
+
+returns-6 : tie.Need-returns-6
+returns-6 c =
+    let at = length-there (c .before .before .before .before .before .before .before .before) in
+    let last = sym (c .before .before .before .same .ensures) ∙ not-false _ (c .before .before .if3 .left) in
+    let held : 6 + c .before .before .before .before .before .before .before .before .before .len .given .0 .0 - 6 ≡ announced (bytes (c .before .before .before .before .before .before .before .before .before .before .before .before)) = omega (arith, at .value) in
+    c .decode-at .ensures
+    ∙ ap (λ n. decoded 10 (c .before .before .before .before .before .before .before .before .before .before .before .before .before .kind .given .0 .0) (take n (drop 6 (bytes (c .before .before .before .before .before .before .before .before .before .before .before .before))))) held
+    ∙ sym (passes-framing _ _ (announces (c .before .before .before .before .before .before .before .before .before .before .before .before)) (at .inside)
+    (omega (arith, at .value, c .before .before .before .before .before .before .before .if2 .left))
+    (rw (part-to-end, c .before .before .before .before .before .before .tail .ensures, at .value) at last))
+
+pub checked-spec : {M : Type 1} → statement M
+checked-spec =
+    tie.close
+    (tie.spec
+    failing-requires
+    returns
+    slice-aggregate-of-header
+    of-header-requires
+    enum-known-kind
+    enum-told
+    failing-requires-2
+    returns-2
+    le16-requires
+    enum-known-len
+    enum-told-2
+    failing-requires-3
+    returns-3
+    cast-end
+    add-end
+    failing-requires-4
+    returns-4
+    tail-requires
+    sub-same
+    part-same-start
+    part-same-end
+    slice-aggregate-same
+    same-requires
+    failing-requires-5
+    returns-5
+    sub-decode-at
+    part-decode-at-start
+    part-decode-at-end
+    add-decode-at
+    decode-at-requires
+    returns-6)

@@ -1,0 +1,45 @@
+use mathlib.Core.Path.{_≡_, sym, ap, _∙_}
+use Rattle.frame.proofs.Bodies.{ack-fails, ack-passes}
+use borrow.Author.Needs.{needs}
+use Rattle.frame.proofs.Frame.of_ack.Statement.{statement}
+use Rattle.frame.proofs.Frame.of_ack.Tie as tie
+use Rattle.frame.proofs.Frame.of_ack.Reads as reads
+use Rattle.frame.proofs.Frame.of_ack.Lts as lts
+use Rattle.ack.proofs.Ack.checked.Reads as checked-reads
+use Rattle.frame.proofs.CheckedFrame.failing.Reads as failing-reads
+use Rattle.report.proofs.no_report.Reads as no-report-reads
+
+checked-requires : tie.Need-checked-requires
+checked-requires c κs = search needs
+
+enum-known-check : tie.Need-enum-known-check
+enum-known-check c = search needs
+
+failing-requires : tie.Need-failing-requires
+failing-requires c κs = search needs
+
+enum-known-ack : tie.Need-enum-known-ack
+enum-known-ack c = search needs
+
+no-report-requires : tie.Need-no-report-requires
+no-report-requires c κs = search needs
+
+returns : tie.Need-returns
+returns c = let read = c .before .before .before .before .checked .ensures in
+    c .failing .ensures ∙ sym (ack-fails _ _ _ (sym read ∙ c .before .before .check .given .1))
+
+returns-2 : tie.Need-returns-2
+returns-2 c = let read = c .before .before .before .before .before .checked .ensures in
+    rw (c .no-report .ensures) (sym (ack-passes _ _ _ (sym read ∙ c .before .before .before .ack .given .1)))
+
+pub of-ack-spec : {M : Type 1} → statement M
+of-ack-spec =
+    tie.close
+    (tie.spec
+    checked-requires
+    enum-known-check
+    failing-requires
+    enum-known-ack
+    no-report-requires
+    returns
+    returns-2)

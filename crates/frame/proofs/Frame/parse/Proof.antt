@@ -1,0 +1,24 @@
+use Rattle.frame.specs.Frame.{parsedFrame}
+use Rattle.frame.proofs.Answers.{parsed-causes}
+use borrow.Author.Needs.{needs}
+use Rattle.frame.proofs.Frame.parse.Statement.{statement}
+use Rattle.frame.proofs.Frame.parse.Tie as tie
+use Rattle.frame.proofs.Frame.parse.Reads as reads
+use Rattle.frame.proofs.Frame.parse.Lts as lts
+use Rattle.frame.proofs.Frame.checked.Reads as checked-reads
+use Rattle.wire.proofs.MaybeCheck.outcome.Reads as outcome-reads
+
+checked-requires : tie.Need-checked-requires
+checked-requires c κs = search needs
+
+outcome-requires : tie.Need-outcome-requires
+outcome-requires c κs = search needs
+
+returns : tie.Need-returns
+unfolding parsedFrame
+returns c =
+    let read = c .before .before .checked .ensures in
+    (rw (c .outcome .ensures, read), rw (c .outcome .ensures, read) (parsed-causes _))
+
+pub parse-spec : {M : Type 1} → statement M
+parse-spec = tie.close (tie.spec checked-requires outcome-requires returns)

@@ -1,0 +1,60 @@
+-- What is framed is read as its data are: the framing's checks hold of it, and its data are those that were framed.
+use mathlib.Core.Path.{_≡_, refl, sym, ap, _∙_}
+use mathlib.Core.List.{List, [], _∷_, _++_}
+use mathlib.Core.Bool.{true}
+use Prim.Native.Nat.{ℕ, _+_, _≤_, _<_}
+use native.Mathlib.Omega.{arith}
+use lib.ListN.{length, take, drop, length-append}
+use lib.Seq.{take-at, drop-at, drop-drop}
+use Rattle.wire.specs.Equal.{sameBytes}
+use Rattle.wire.proofs.Equality.{same-complete}
+use Rattle.wire.specs.Number.{little, leBytes}
+use Rattle.wire.specs.Family.{header, tail, headerOf, framed}
+use Rattle.wire.proofs.Families.{header-length, tail-length, header-complete}
+use Rattle.wire.specs.declared.Kind.{Kind}
+use Rattle.wire.specs.declared.MaybeKind.the-variants as Found
+use Rattle.frame.specs.Frame.{family, announced, dataOf, decoded, checkedFrame}
+use Rattle.frame.proofs.Answers.{passes-framing}
+
+module _ (k : Kind) (d : List ℕ) where
+  pub framed-family : family (framed k d) ≡ Found.Some k
+  unfolding framed
+  framed-family = ap headerOf (take-at (header k) (leBytes 2 (length d) ++ (d ++ tail k)) 4 (header-length k)) ∙ header-complete k
+
+  framed-behind : drop 4 (framed k d) ≡ leBytes 2 (length d) ++ (d ++ tail k)
+  unfolding framed
+  framed-behind = drop-at (header k) (leBytes 2 (length d) ++ (d ++ tail k)) 4 (header-length k)
+
+  pub framed-data : drop 6 (framed k d) ≡ d ++ tail k
+  framed-data = sym (drop-drop 2 4 (framed k d)) ∙ ap (λ s. drop 2 s) framed-behind
+
+  pub framed-tail : drop (6 + length d) (framed k d) ≡ tail k
+  framed-tail = sym (drop-drop (length d) 6 (framed k d)) ∙ ap (λ s. drop (length d) s) framed-data
+      ∙ drop-at d (tail k) (length d) refl
+
+  pub framed-length : length (framed k d) ≡ 10 + length d
+  unfolding framed
+  framed-length = omega (
+    arith,
+    length-append (header k) (leBytes 2 (length d) ++ (d ++ tail k)),
+    header-length k,
+    length-append d (tail k),
+    tail-length k,
+  )
+
+  -- A length that two bytes hold.
+  module _ (small : length d < 65536) where
+    pub framed-announced : announced (framed k d) ≡ length d
+    framed-announced = ap (λ s. little (take 2 s)) framed-behind ∙ again
+      where
+        again : little (leBytes 2 (length d)) ≡ length d
+        again = omega arith
+
+    pub framed-dataOf : dataOf (framed k d) ≡ d
+    framed-dataOf = rw framed-announced (ap (λ s. take (length d) s) framed-data ∙ take-at d (tail k) (length d) refl)
+
+    pub checked-framed : checkedFrame (framed k d) ≡ decoded 10 k d
+    checked-framed =
+        passes-framing (framed k d) k framed-family (omega (arith, framed-length))
+        (omega (arith, framed-length, framed-announced))
+        (rw framed-announced (same-complete _ _ framed-tail)) ∙ ap (decoded 10 k) framed-dataOf

@@ -1,0 +1,198 @@
+// Whole frames of the LD2410: header, length, data and tail, with nothing before or after, and the body that the data are.
+//
+// The Rust's `Frame` borrows an acknowledgement's payload. Here a frame is a kind beside a report and an acknowledgement, of
+// which the unused one is all 0, and the payload is a span of the bytes that were read.
+use ack::Ack;
+use ack::CheckedAck;
+use ack::Span;
+use report::Report;
+use report::no_report;
+use wire::Check;
+use wire::FRAMING;
+use wire::Kind;
+use wire::MaybeCheck;
+use wire::MaybeKind;
+use wire::MaybeU16;
+use wire::Outcome;
+use wire::le16;
+use wire::same;
+ghost use mathlib.Core.Path.{_≡_};
+ghost use Rattle.wire.specs.Check.{Causes};
+ghost use Rattle.wire.specs.declared.Kind.the-variants as Family;
+ghost use Rattle.frame.specs.Frame.{noAck, noFrame, decoded, checksFor, checkedFrame, parsedFrame, failingFrame};
+
+// What a frame holds.
+pub enum FrameKind {
+    None,
+    Report,
+    Ack,
+}
+
+// A frame: a report or an acknowledgement, the other one all 0; with no frame both are.
+pub struct Frame {
+    pub kind: FrameKind,
+    pub report: Report,
+    pub ack: Ack,
+}
+
+// A frame, or the first check that fails beside no frame.
+pub struct CheckedFrame {
+    pub failed: MaybeCheck,
+    pub frame: Frame,
+}
+
+// The same with the refusal that the check gives.
+pub struct FrameResult {
+    pub outcome: Outcome,
+    pub frame: Frame,
+}
+
+// Where the data of a frame begin: behind the header and the length.
+const DATA_START: usize = FRAMING - 4;
+
+// Where an acknowledgement's payload begins in its data.
+const PAYLOAD_START: usize = 4;
+
+// An acknowledgement of which every field is 0.
+fn no_ack() -> Ack
+    ensures empty { λ r. ⌜ r ≡ noAck ⌝ }
+{
+    Ack {
+        word: 0,
+        ok: false,
+        status: 0,
+        payload: Span { start: 0, len: 0 },
+    }
+}
+
+impl CheckedFrame {
+    // No frame, since the check failed.
+    fn failing(check: Check) -> Self
+        ensures failed { λ r. ⌜ r ≡ failingFrame check ⌝ }
+    {
+        CheckedFrame {
+            failed: MaybeCheck::Some(check),
+            frame: Frame::none(),
+        }
+    }
+}
+
+impl Frame {
+    // No frame: every field 0.
+    pub fn none() -> Self
+        ensures empty { λ r. ⌜ r ≡ noFrame ⌝ }
+    {
+        Frame {
+            kind: FrameKind::None,
+            report: no_report(),
+            ack: no_ack(),
+        }
+    }
+
+    // Decodes the data of a frame of this family. A payload's span counts in the data.
+    pub fn decode(kind: Kind, data: &[u8]) -> CheckedFrame
+        ensures decoded { λ r. ⌜ r ≡ decoded 4 kind (now («data» .entry)) ⌝ }
+    {
+        Frame::decode_at(kind, data, PAYLOAD_START)
+    }
+
+    // The same, the payload's span beginning at `start`, where the data are a part of the bytes that it counts in.
+    fn decode_at(kind: Kind, data: &[u8], start: usize) -> CheckedFrame
+        ensures decoded { λ r. ⌜ r ≡ decoded start kind (now («data» .entry)) ⌝ }
+    {
+        match kind {
+            Kind::Report => Frame::of_report(data),
+            Kind::Command => Frame::of_ack(data, start),
+        }
+    }
+
+    // Decodes a report's data.
+    fn of_report(data: &[u8]) -> CheckedFrame
+        ensures decoded { λ r. ⌜ r ≡ decoded 4 Family.Report (now («data» .entry)) ⌝ }
+    {
+        let read = Report::checked(data);
+        let failed = read.failed;
+        match failed {
+            MaybeCheck::Some(check) => CheckedFrame::failing(check),
+            MaybeCheck::None => {
+                let report = read.report;
+                CheckedFrame {
+                    failed: MaybeCheck::None,
+                    frame: Frame {
+                        kind: FrameKind::Report,
+                        report,
+                        ack: no_ack(),
+                    },
+                }
+            }
+        }
+    }
+
+    // Decodes an acknowledgement's data.
+    fn of_ack(data: &[u8], start: usize) -> CheckedFrame
+        ensures decoded { λ r. ⌜ r ≡ decoded start Family.Command (now («data» .entry)) ⌝ }
+    {
+        match Ack::checked(data) {
+            CheckedAck::Failed(check) => CheckedFrame::failing(check),
+            CheckedAck::Ok(ack) => {
+                let payload = ack.payload;
+                CheckedFrame {
+                    failed: MaybeCheck::None,
+                    frame: Frame {
+                        kind: FrameKind::Ack,
+                        report: no_report(),
+                        ack: Ack {
+                            word: ack.word,
+                            ok: ack.ok,
+                            status: ack.status,
+                            payload: Span {
+                                start,
+                                len: payload.len,
+                            },
+                        },
+                    },
+                }
+            }
+        }
+    }
+
+    // Decodes one whole frame and gives the first check that it fails: F1 to F4, then the body's. A payload's span counts
+    // in `bytes`. The stream's limits on the length do not hold here: the data may have 0 to 65,535 bytes.
+    pub fn checked(bytes: &[u8]) -> CheckedFrame
+        ensures checked { λ r. ⌜ r ≡ checkedFrame (now (bytes .entry)) ⌝ }
+    {
+        if bytes.len() < 4 {
+            return CheckedFrame::failing(Check::F1);
+        }
+        let MaybeKind::Some(kind) = Kind::of_header(&bytes[..4]) else {
+            return CheckedFrame::failing(Check::F1);
+        };
+        let MaybeU16::Some(len) = le16(bytes, 4) else {
+            return CheckedFrame::failing(Check::F2);
+        };
+        let end = DATA_START + len as usize;
+        if bytes.len() < end {
+            return CheckedFrame::failing(Check::F3);
+        }
+        let tail = kind.tail();
+        if !same(&bytes[end..], &tail) {
+            return CheckedFrame::failing(Check::F4);
+        }
+        Frame::decode_at(kind, &bytes[DATA_START..end], DATA_START + PAYLOAD_START)
+    }
+
+    // Decodes one whole frame held in `bytes`. Refuses with 1 where F1 to F4 or the body's layout fail, with 2 where the
+    // report's type is unknown.
+    pub fn parse(bytes: &[u8]) -> FrameResult
+        ensures parsed { λ r. ⌜ r ≡ parsedFrame (now (bytes .entry)) ⌝ }
+        ensures causes { λ r. ⌜ Causes (checksFor (now (bytes .entry))) (now (bytes .entry)) (r .outcome) ⌝ }
+    {
+        let c = Frame::checked(bytes);
+        let failed = c.failed;
+        let frame = c.frame;
+        FrameResult {
+            outcome: failed.outcome(),
+            frame,
+        }
+    }
+}

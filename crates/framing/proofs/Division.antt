@@ -1,0 +1,47 @@
+-- What a division's pieces spell and add up to.
+use mathlib.Core.Path.{_≡_, refl, sym, _∙_, ap}
+use mathlib.Core.List.{List, [], _∷_, _++_, append-assoc, append-nil}
+use mathlib.Core.Bool.{Bool}
+use Prim.Native.Nat.{ℕ, _+_}
+use native.Mathlib.Omega.{arith}
+use lib.ListN.{length, length-append}
+use Rattle.framing.specs.Framing.{Framing, Piece, stray, broken, whole, unfinished, bytes, spelled}
+use Rattle.framing.specs.Division.{Division, is-empty, is-stray, is-broken, is-whole, is-unfinished}
+use Rattle.framing.specs.Tally.{lost, framed, waiting, sum, passes, passing}
+
+pub spelled-append : (ps qs : List Piece) → spelled (ps ++ qs) ≡ spelled ps ++ spelled qs
+spelled-append [] qs = refl
+spelled-append (p ∷ ps) qs = rw (spelled-append ps qs) (sym (append-assoc (bytes p) (spelled ps) (spelled qs)))
+
+pub sum-append : (f : Piece → ℕ) (ps qs : List Piece) → sum f (ps ++ qs) ≡ sum f ps + sum f qs
+sum-append f [] qs = omega arith
+sum-append f (p ∷ ps) qs = omega (arith, sum-append f ps qs)
+
+-- The pieces of a division spell the stream.
+pub division-spelled : {F : Framing} {s : List ℕ} {ps : List Piece} → Division F s ps → spelled ps ≡ s
+division-spelled is-empty = refl
+division-spelled (is-stray {b} n d) = ap (λ (l : List ℕ). b ∷ l) (division-spelled d)
+division-spelled (is-broken {s} ne o w n d) = ap (λ (l : List ℕ). s ++ l) (division-spelled d)
+division-spelled (is-whole {s} w d) = ap (λ (l : List ℕ). s ++ l) (division-spelled d)
+division-spelled (is-unfinished {s} ne o w) = append-nil s
+
+pub passing-append : (test : List ℕ → Bool) (ps qs : List Piece)
+    → passing test (ps ++ qs) ≡ passing test ps ++ passing test qs
+passing-append test [] qs = refl
+passing-append test (p ∷ ps) qs =
+    rw (passing-append test ps qs) (sym (append-assoc (passes test p) (passing test ps) (passing test qs)))
+
+-- Each byte is lost, or in the unfinished end, or in a whole frame.
+part : (p : Piece) → length (bytes p) ≡ lost p + waiting p + framed p
+part (stray b) = refl
+part (broken s) = omega arith
+part (whole s) = omega arith
+part (unfinished s) = omega arith
+
+parts : (ps : List Piece) → length (spelled ps) ≡ sum lost ps + sum waiting ps + sum framed ps
+parts [] = refl
+parts (p ∷ ps) = omega (arith, length-append (bytes p) (spelled ps), part p, parts ps)
+
+pub division-length : {F : Framing} {s : List ℕ} {ps : List Piece} → Division F s ps
+    → length s ≡ sum lost ps + sum waiting ps + sum framed ps
+division-length {F} {s} {ps} d = ap length (sym (division-spelled d)) ∙ parts ps

@@ -1,0 +1,61 @@
+-- The division of a stream into pieces: document 01, "The division of a stream", for any framing.
+--   Division F s ps   the string s is cut into the pieces ps
+--   Divided F s       s has one division, and no other
+--   EndsAt ps n f     among the pieces ps there is the whole frame f, and it ends after n bytes
+--   finished ps       the pieces but the unfinished end: those that no later byte can change
+--   cut ps            the bytes of the unfinished end, none where there is none
+use mathlib.Core.Path.{_≡_}
+use mathlib.Core.Logic.{_≢_}
+use mathlib.Core.List.{List, [], _∷_, _++_}
+use Prim.Native.Nat.{ℕ}
+use lib.ListN.{length}
+use Rattle.framing.specs.Framing.{Framing, Piece, stray, broken, whole, unfinished, spelled}
+
+pub data Division (F : Framing) : List ℕ → List Piece → Type 0 where
+  is-empty : Division F [] []
+  -- 01's stray: one byte that begins no frame
+  is-stray : {b : ℕ} {t : List ℕ} {ps : List Piece}
+      → ¬ F .Open (b ∷ [])
+      → Division F t ps
+      → Division F (b ∷ t) (stray b ∷ ps)
+  -- 01's broken start: open, not empty, not whole, and no longer open with the byte c that follows it in the stretch.
+  -- That byte is not part of it: it is the first of what is divided next
+  is-broken : {s : List ℕ} {c : ℕ} {t : List ℕ} {ps : List Piece}
+      → s ≢ [] → F .Open s → ¬ F .Whole s
+      → ¬ F .Open (s ++ (c ∷ []))
+      → Division F (c ∷ t) ps
+      → Division F (s ++ (c ∷ t)) (broken s ∷ ps)
+  -- 01's whole frame
+  is-whole : {s t : List ℕ} {ps : List Piece}
+      → F .Whole s
+      → Division F t ps
+      → Division F (s ++ t) (whole s ∷ ps)
+  -- 01's unfinished end: open, not empty, not whole, last in the stretch
+  is-unfinished : {s : List ℕ}
+      → s ≢ [] → F .Open s → ¬ F .Whole s
+      → Division F s (unfinished s ∷ [])
+
+pub record Divided (F : Framing) (s : List ℕ) : Type 0 where
+  pub pieces : List Piece
+  pub division : Division F s pieces
+  pub only : (ps : List Piece) → Division F s ps → ps ≡ pieces
+
+pub record EndsAt (ps : List Piece) (n : ℕ) (f : List ℕ) : Type 0 where
+  pub before : List Piece
+  pub behind : List Piece
+  pub split : ps ≡ before ++ (whole f ∷ behind)
+  pub place : length (spelled before ++ f) ≡ n
+
+abbrev pub finished : List Piece → List Piece
+finished [] = []
+finished (stray b ∷ ps) = stray b ∷ finished ps
+finished (broken s ∷ ps) = broken s ∷ finished ps
+finished (whole s ∷ ps) = whole s ∷ finished ps
+finished (unfinished s ∷ ps) = finished ps
+
+abbrev pub cut : List Piece → List ℕ
+cut [] = []
+cut (stray b ∷ ps) = cut ps
+cut (broken s ∷ ps) = cut ps
+cut (whole s ∷ ps) = cut ps
+cut (unfinished s ∷ ps) = s ++ cut ps

@@ -1,0 +1,65 @@
+-- What one more byte does to a division: it is the division's own rule, read from left to right. What stands before the
+-- byte matters only through the pending string, the unfinished end of what came before.
+--   Step         what a byte did: the pieces that it closed, the frame that it ended, what is pending now
+--   step F p c   what the byte c does behind the pending string p
+--   closed F p s the pieces that the string s closes behind p
+--   rest F p s   what is pending after s behind p
+--   leftover p   a pending string at the end of a stream, as its unfinished end
+--   pieces F s   the pieces of the string s
+use mathlib.Core.List.{List, [], _∷_, _++_}
+use mathlib.Core.Option.{Option, none, some}
+use Prim.Native.Nat.{ℕ}
+use Rattle.framing.specs.Framing.{Framing, Piece, stray, broken, whole, unfinished}
+
+pub record Step : Type 0 where
+  pub closed : List Piece
+  pub ended : Option (List ℕ)
+  pub pending : List ℕ
+
+-- The byte ended the frame s; made the open string s; was stray; or broke the open string s, and then did r.
+abbrev pub ends : List ℕ → Step
+ends s = record { closed = whole s ∷ []; ended = some s; pending = [] }
+
+abbrev pub opens : List ℕ → Step
+opens s = record { closed = []; ended = none; pending = s }
+
+abbrev pub strays : ℕ → Step
+strays c = record { closed = stray c ∷ []; ended = none; pending = [] }
+
+abbrev pub breaks : List ℕ → Step → Step
+breaks s r = record { closed = broken s ∷ r .closed; ended = r .ended; pending = r .pending }
+
+-- The string s, longer by its last byte, is a frame, or waits for more, or else.
+abbrev pub grown : {W O : Type 0} → Dec W → Dec O → List ℕ → Step → Step
+grown (yes w) o s else = ends s
+grown (no w) (yes o) s else = opens s
+grown (no w) (no o) s else = else
+
+module _ (F : Framing) where
+  -- A byte with nothing before it: it is a frame, or begins one, or is stray.
+  abbrev pub start : ℕ → Step
+  start c = grown (F .whole? (c ∷ [])) (F .open? (c ∷ [])) (c ∷ []) (strays c)
+
+  -- A byte that does not go on with what is pending breaks it, and is tried as a new start. Only that byte is.
+  abbrev pub over : List ℕ → ℕ → Step
+  over [] c = strays c
+  over (b ∷ p) c = breaks (b ∷ p) (start c)
+
+  -- A byte behind a pending string: it ends a frame, or goes on with it, or starts over.
+  abbrev pub step : List ℕ → ℕ → Step
+  step p c = grown (F .whole? (p ++ (c ∷ []))) (F .open? (p ++ (c ∷ []))) (p ++ (c ∷ [])) (over p c)
+
+  abbrev pub closed : List ℕ → List ℕ → List Piece
+  closed p [] = []
+  closed p (c ∷ s) = step p c .closed ++ closed (step p c .pending) s
+
+  abbrev pub rest : List ℕ → List ℕ → List ℕ
+  rest p [] = p
+  rest p (c ∷ s) = rest (step p c .pending) s
+
+abbrev pub leftover : List ℕ → List Piece
+leftover [] = []
+leftover (b ∷ p) = unfinished (b ∷ p) ∷ []
+
+abbrev pub pieces : Framing → List ℕ → List Piece
+pieces F s = closed F [] s ++ leftover (rest F [] s)

@@ -1,0 +1,77 @@
+-- What a division adds up to, for counters of any kind.
+--   sum f ps        the sum of the number f over the pieces ps
+--   resynced        1 for a broken start: 01's resyncs
+--   lost            the bytes of a piece that is in no frame, stray or a broken start: 01's dropped
+--   framed          the bytes of a whole frame
+--   waiting         the bytes of an unfinished end
+--   passed test     1 for a whole frame that passes the test: 01's frames and malformed
+--   passing test    the whole frames that pass the test, in order
+--   Counting K      what each piece adds to each of the tallies K
+--   total C k ps    what the pieces ps add to the tally k
+use mathlib.Core.Path.{_≡_}
+use mathlib.Core.List.{List, [], _∷_, _++_}
+use mathlib.Core.Bool.{Bool, true, false}
+use Prim.Native.Nat.{ℕ, _+_}
+use lib.ListN.{length}
+use Rattle.framing.specs.Framing.{Piece, stray, broken, whole, unfinished}
+
+abbrev pub sum : (Piece → ℕ) → List Piece → ℕ
+sum f [] = 0
+sum f (p ∷ ps) = f p + sum f ps
+
+abbrev pub resynced : Piece → ℕ
+resynced (stray b) = 0
+resynced (broken s) = 1
+resynced (whole s) = 0
+resynced (unfinished s) = 0
+
+abbrev pub lost : Piece → ℕ
+lost (stray b) = 1
+lost (broken s) = length s
+lost (whole s) = 0
+lost (unfinished s) = 0
+
+abbrev pub framed : Piece → ℕ
+framed (stray b) = 0
+framed (broken s) = 0
+framed (whole s) = length s
+framed (unfinished s) = 0
+
+abbrev pub waiting : Piece → ℕ
+waiting (stray b) = 0
+waiting (broken s) = 0
+waiting (whole s) = 0
+waiting (unfinished s) = length s
+
+abbrev pub one-if : Bool → ℕ
+one-if true = 1
+one-if false = 0
+
+abbrev pub passed : (List ℕ → Bool) → Piece → ℕ
+passed test (stray b) = 0
+passed test (broken s) = 0
+passed test (whole s) = one-if (test s)
+passed test (unfinished s) = 0
+
+-- The element, if so, and else nothing.
+abbrev pub only-if : {A : Type 0} → Bool → A → List A
+only-if true a = a ∷ []
+only-if false a = []
+
+abbrev pub passes : (List ℕ → Bool) → Piece → List (List ℕ)
+passes test (stray b) = []
+passes test (broken s) = []
+passes test (whole s) = only-if (test s) s
+passes test (unfinished s) = []
+
+abbrev pub passing : (List ℕ → Bool) → List Piece → List (List ℕ)
+passing test [] = []
+passing test (p ∷ ps) = passes test p ++ passing test ps
+
+-- An unfinished end adds nothing: 01, "An unfinished end forgotten by reset enters no counter".
+pub record Counting (K : Type 0) : Type 0 where
+  pub adds : K → Piece → ℕ
+  pub cut-adds-nothing : (k : K) (s : List ℕ) → adds k (unfinished s) ≡ 0
+
+abbrev pub total : {K : Type 0} → Counting K → K → List Piece → ℕ
+total C k ps = sum (C .adds k) ps

@@ -1,0 +1,81 @@
+-- Demand 3, from a parser in which nothing is pending: the theory of the stream, for this engine.
+use mathlib.Core.Path.{_≡_, refl, sym, ap, _∙_}
+use mathlib.Core.List.{List, []}
+use Prim.Native.Nat.{ℕ, _+_, _<_}
+use native.Mathlib.Omega.{arith}
+use lib.ListN.{length}
+use Rattle.framing.specs.Bytes.{Every}
+use Rattle.framing.specs.Tally.{sum, framed}
+use Rattle.framing.specs.Calls.{Call, ByteCall, takenBy}
+use Rattle.framing.specs.Correct.{Correct}
+use Rattle.framing.proofs.Correct.{correct}
+use Rattle.framing.proofs.Accounts.{accounts}
+use Rattle.framing.proofs.Same.{same}
+use Rattle.stream.specs.Link.{link}
+use Rattle.stream.specs.Deliver.{Counter, frames, resyncs, dropped, malformed}
+use Rattle.stream.specs.Decoding.{decoding, counting}
+use Rattle.parser.specs.Feed.{fresh, resetOf, unfinishedOf}
+use Rattle.parser.specs.Engine.{pendingBy, engine}
+use Rattle.parser.specs.Claims.{did, left, Fulfilled, FromHere, Accounted, Determined}
+use Rattle.parser.specs.declared.Parser.{Parser}
+use Rattle.parser.proofs.Feeding.{Valid}
+use Rattle.parser.proofs.Engines.{lawful, hunting-pending}
+
+small : 54 < 65536
+small = omega arith
+
+module _ (p : Parser) (v : Valid 54 p) (nothing : pendingBy 54 p ≡ []) where
+  right : (calls : List Call) → Every ByteCall calls → Correct (link 54) decoding counting (engine 54) p calls
+  right calls h = correct (link 54) decoding counting (engine 54) (lawful 54 small) p v nothing calls h
+
+  pub fulfilled : FromHere p
+  fulfilled calls h =
+      let x = right calls h in
+      record {
+        divide = x .divide;
+        glued = x .glued;
+        apart = x .apart;
+        right = x .right;
+        delivered = x .delivered;
+        frames = x .counted frames;
+        resyncs = x .counted resyncs;
+        dropped = x .counted dropped;
+        malformed = x .counted malformed;
+        unfinished = x .unfinished;
+      }
+
+  pub determined : Determined p
+  determined E s calls h c most start =
+      same (link 54) decoding counting E (engine 54) s p calls c (right calls h) most start
+
+  pub accounted : p .stats .dropped ≡ 0 → Accounted p
+  accounted start calls h goes less ps d =
+      let x = right calls h in
+      accounts (link 54) decoding counting (engine 54) dropped (λ q. refl) p calls x goes start less
+      ∙ ap (λ qs. left p calls .stats .dropped + unfinishedOf 54 (left p calls) + sum framed qs)
+      (sym (x .divide (takenBy (did p calls)) .only ps d))
+
+-- A parser just reset has nothing pending, and a fresh one is as if it were.
+pub reset-valid : (p : Parser) → Valid 54 p → Valid 54 (resetOf p)
+reset-valid p v = record { room = v .room; capped = v .capped }
+
+pub fresh-valid : Valid 54 fresh
+fresh-valid = record {
+  room = omega arith;
+  capped = record { frames = omega arith; resyncs = omega arith; dropped = omega arith; malformed = omega arith };
+}
+
+nothing-in : (p : Parser) → pendingBy 54 (resetOf p) ≡ []
+nothing-in p = hunting-pending 54 small p
+
+pub fresh-claims : FromHere fresh × (Accounted fresh × Determined fresh)
+fresh-claims = (
+  fulfilled fresh fresh-valid (nothing-in fresh),
+  (
+    accounted fresh fresh-valid (nothing-in fresh) refl,
+    determined fresh fresh-valid (nothing-in fresh),
+  ),
+)
+
+pub reset-claims : (p : Parser) → Valid 54 p → FromHere (resetOf p) × Determined (resetOf p)
+reset-claims p v = (fulfilled (resetOf p) (reset-valid p v) (nothing-in p), determined (resetOf p) (reset-valid p v) (nothing-in p))

@@ -1,0 +1,119 @@
+-- The parser is a lawful engine of the link's framing, at every largest length below 65,536.
+use mathlib.Core.Path.{_≡_, refl, sym, ap, subst, _∙_}
+use mathlib.Core.List.{List, [], _∷_}
+use Prim.Native.Nat.{ℕ, _+_, _≤_, _<_, min}
+use lib.ListN.{length}
+use Rattle.wire.specs.Counter.{counterMost}
+use Rattle.framing.specs.Bytes.{Byte, Bytes}
+use Rattle.framing.specs.Engine.{Sliced}
+use Rattle.framing.specs.Tally.{total}
+use Rattle.framing.specs.Scanner as Scanner
+use Rattle.framing.specs.Lawful.{answerAt, feedUntil, Lawful}
+use Rattle.framing.proofs.Until.{until-invariant}
+use Rattle.stream.specs.Link.{link}
+use Rattle.stream.specs.Deliver.{Answer, Counter, frames, resyncs, dropped, malformed}
+use Rattle.stream.specs.Decoding.{decoding, counting}
+use Rattle.parser.specs.Scan.{hunting, inOrder, settled, pendingOf}
+use Rattle.parser.specs.Step.{stepOf, stored}
+use Rattle.parser.specs.Slice.{runOf}
+use Rattle.parser.specs.Feed.{bufOf, movedOf, put, feedOf, sliceBufOf, sliceMovedOf, feedSliceOf, resetOf}
+use Rattle.parser.specs.Feed.{unfinishedAt, unfinishedOf}
+use Rattle.parser.specs.Engine.{counterIn, pendingBy, engine}
+use Rattle.parser.specs.declared.Scan.{Scan}
+use Rattle.parser.specs.declared.Parser.{Parser}
+use Rattle.parser.proofs.Follow.{Capped}
+use Rattle.parser.proofs.Waiting.{waits, pending-length}
+use Rattle.parser.proofs.Feeding.{Valid, settled-order, settled-same, one-follows, one-scan, one-answer, one-counter, one-valid}
+use Rattle.parser.proofs.Slicing.{sliceAs, until}
+
+module _ (most : ℕ) (small : most < 65536) where
+  -- A parser whose scan is settled, and that it does the same.
+  abbrev still : Parser → Parser
+  still p = put (p .buf) (settled most (p .scan)) (p .stats)
+
+  still-valid : (p : Parser) → Valid most p → Valid most (still p)
+  still-valid p v = record { room = v .room; capped = v .capped }
+
+  settled-twice : (c : Scan) → settled most (settled most c) ≡ settled most c
+  settled-twice c = settled-same most (settled most c) (settled-order most c)
+
+  still-fed : (p : Parser) (b : ℕ) → feedOf most (still p) b ≡ feedOf most p b
+  unfolding feedOf movedOf bufOf
+  still-fed p b = rw (settled-twice (p .scan))
+
+  still-until : (p : Parser) (b : ℕ) (bs : List ℕ)
+      → feedUntil (link most) decoding (engine most) (still p) (b ∷ bs)
+      ≡ feedUntil (link most) decoding (engine most) p (b ∷ bs)
+  still-until p b bs = rw (settled-twice (p .scan), still-fed p b)
+
+  -- The slice call, as its definition has it, gives back what the bytes do from the settled parser.
+  slice-until : (p : Parser) (bs : List ℕ) → Valid most p → Bytes bs
+      → engine most .slice p bs ≡ feedUntil (link most) decoding (engine most) (still p) bs
+  unfolding feedSliceOf sliceMovedOf sliceBufOf
+  slice-until p bs v h =
+      until most small bs h (settled most (p .scan)) (settled-order most (p .scan)) (p .stats) (v .capped) (p .buf) (v .room)
+
+  -- One byte.
+  module _ (p : Parser) (b : ℕ) (v : Valid most p) (byte : Byte b) where
+    abbrev c : Scan
+    c = settled most (p .scan)
+
+    fed-valid : Valid most (feedOf most p b .parser)
+    unfolding feedOf movedOf bufOf
+    fed-valid = one-valid most small c (settled-order most (p .scan)) (p .stats) (v .capped) (p .buf) (v .room) b byte
+
+    fed-pending : pendingBy most (feedOf most p b .parser) ≡ Scanner.step (link most) (pendingBy most p) b .pending
+    unfolding feedOf movedOf bufOf
+    fed-pending =
+        let f = one-follows most small c (settled-order most (p .scan)) (p .stats) (v .capped) (p .buf) (v .room) b byte in
+        let e = one-scan most small c (settled-order most (p .scan)) (p .stats) (v .capped) (p .buf) (v .room) b byte in
+        rw (e, settled-same most (stepOf most c (p .stats) b .scan) (f .order)) (f .pending)
+
+    fed-answer : engine most .feed p b .1 ≡ answerAt decoding (Scanner.step (link most) (pendingBy most p) b .ended)
+    unfolding feedOf movedOf bufOf
+    fed-answer = one-answer most small c (settled-order most (p .scan)) (p .stats) (v .capped) (p .buf) (v .room) b byte
+
+    fed-counter : (k : Counter) → counterIn k (feedOf most p b .parser .stats)
+        ≡ min (counterIn k (p .stats) + total counting k (Scanner.step (link most) (pendingBy most p) b .closed)) counterMost
+    unfolding feedOf movedOf bufOf
+    fed-counter k =
+        one-counter most small c (settled-order most (p .scan)) (p .stats) (v .capped) (p .buf) (v .room) b byte k
+
+  -- A slice: what is pending, told, answered and counted is what the bytes do from the parser itself.
+  module _ (p : Parser) (v : Valid most p) where
+    same-until : {X : Type 0} (get : Sliced Parser Answer → X) → get (feedUntil (link most) decoding (engine most) (still p) [])
+        ≡ get (feedUntil (link most) decoding (engine most) p []) → (bs : List ℕ) → Bytes bs
+        → get (engine most .slice p bs) ≡ get (feedUntil (link most) decoding (engine most) p bs)
+    same-until get e [] h = ap get (slice-until p [] v h) ∙ e
+    same-until get e (b ∷ bs) h = ap get (slice-until p (b ∷ bs) v h ∙ still-until p b bs)
+
+  capped-at : (k : Counter) (p : Parser) → Valid most p → counterIn k (p .stats) ≤ counterMost
+  capped-at frames p v = v .capped .frames
+  capped-at resyncs p v = v .capped .resyncs
+  capped-at dropped p v = v .capped .dropped
+  capped-at malformed p v = v .capped .malformed
+
+  pub hunting-pending : (p : Parser) → pendingBy most (resetOf p) ≡ []
+  unfolding settled inOrder pendingOf
+  hunting-pending p = refl
+
+  pub lawful : Lawful (link most) decoding counting (engine most) (Valid most)
+  unfolding unfinishedOf
+  lawful = record {
+    feed-valid = fed-valid;
+    feed-pending = fed-pending;
+    feed-answer = fed-answer;
+    feed-counter = fed-counter;
+    slice-valid = λ p bs v h. subst (λ (s : Sliced Parser Answer). Valid most (s .state)) (sym (slice-until p bs v h))
+        (until-invariant (link most) decoding (engine most) (Valid most) fed-valid (still p) bs (still-valid p v) h);
+    slice-pending = λ p bs v h. same-until p v (λ s. pendingBy most (s .state)) (rw (settled-twice (p .scan))) bs h;
+    slice-told = λ p bs v h. same-until p v (λ s. s .told) refl bs h;
+    slice-answer = λ p bs v h. same-until p v (λ s. s .answer) refl bs h;
+    slice-counter = λ p bs v h k. same-until p v (λ s. counterIn k (s .state .stats)) refl bs h;
+    reset-valid = λ p v. record { room = v .room; capped = v .capped };
+    reset-pending = λ p v. hunting-pending p;
+    reset-counter = λ p v k. refl;
+    pending-waits = λ p v. waits most small (p .buf) (v .room) (settled most (p .scan)) (settled-order most (p .scan));
+    pending-length = λ p v. pending-length most small (p .buf) (v .room) (settled most (p .scan)) (settled-order most (p .scan));
+    capped = λ p v k. capped-at k p v;
+  }

@@ -1,0 +1,24 @@
+-- `report::Report::parse` meets its contract, by what `checked` and `outcome` ensure. Assumes nothing.
+use mathlib.Core.Path.{ap, _∙_}
+use borrow.Author.Needs.{needs}
+use Rattle.wire.specs.Check.{outcomeOf}
+use Rattle.report.specs.Check.{parsedReport}
+use Rattle.report.proofs.Answers.{parsed-causes}
+use Rattle.report.proofs.Report.parse.Statement.{statement}
+use Rattle.report.proofs.Report.parse.Tie as tie
+
+checked-requires : tie.Need-checked-requires
+checked-requires c κs = search needs
+
+outcome-requires : tie.Need-outcome-requires
+outcome-requires c κs = search needs
+
+returns : tie.Need-returns
+unfolding parsedReport
+returns c =
+    let read = c .before .before .checked .ensures in
+    let told = c .outcome .ensures ∙ ap (λ k. outcomeOf (k .failed)) read in
+    (rw (told, read), rw told (parsed-causes _))
+
+pub parse-spec : {M : Type 1} → statement M
+parse-spec = tie.close (tie.spec checked-requires outcome-requires returns)

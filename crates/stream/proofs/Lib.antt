@@ -1,0 +1,10 @@
+-- What the tests say of a string behind a header.
+pub mod Headers
+-- The tests are document 01's words.
+pub mod Tested
+-- What one more byte makes of a string that waits.
+pub mod Steps
+-- What a whole frame delivers.
+pub mod Delivered
+-- Which bytes begin a frame, and what framing a whole frame's data gives.
+pub mod Begins

@@ -1,0 +1,153 @@
+-- What one more byte makes of a string that waits: in a header, in a length, among the data bytes, in a tail.
+use mathlib.Core.Path.{_≡_, refl, sym, ap, _∙_}
+use mathlib.Core.List.{List, [], _∷_, _++_, append-assoc}
+use mathlib.Core.Bool.{Bool, true, false, _&&_}
+use Prim.Native.Nat.{ℕ, zero, suc, _+_, _≤_, _<_}
+use native.Mathlib.Omega.{arith}
+use lib.Dec.{eqb}
+use borrow.Author.Tests.{eq-eqb, eqb-true}
+use lib.ListN.{length, getD, take, drop, length-drop, drop-of-length-le}
+use lib.Seq.{drop-at, drop-nil}
+use Rattle.wire.specs.Number.{little}
+use Rattle.wire.specs.Family.{header, tail, startingWith, orElse}
+use Rattle.wire.proofs.Families.{header-length, tail-length}
+use Rattle.wire.specs.declared.Kind.{Kind}
+use Rattle.wire.specs.declared.Kind.the-variants.{Report, Command}
+use Rattle.wire.specs.declared.MaybeKind.{MaybeKind}
+use Rattle.wire.specs.declared.MaybeKind.the-variants.{Some, None}
+use Rattle.stream.specs.Scan.{behind, nothing, inRange, readsLength, reads, readsAs, opens, wholes}
+use Rattle.stream.proofs.Headers.{opens-header, wholes-header}
+
+and-true : (a : Bool) → a && true ≡ a
+and-true true = refl
+and-true false = refl
+
+and-false : (a : Bool) → a && false ≡ false
+and-false true = refl
+and-false false = refl
+
+-- A part of a word and one more byte: the byte must be the word's next.
+word-next : (cut : Bool) (w : List ℕ) (next : List ℕ → Bool) (m b : ℕ) → m < length w
+    → behind cut w next (take m w ++ (b ∷ [])) ≡ eqb b (getD w m 0) && behind cut (drop (suc m) w) next []
+word-next cut [] next m b l = absurd (omega arith)
+word-next cut (x ∷ w) next zero b l = refl
+word-next cut (x ∷ w) next (suc m) b l = rw (eq-eqb x x refl) (word-next cut w next m b (omega arith))
+
+-- A word that may be cut may be missing; one that may not may not.
+word-cut : (w : List ℕ) (next : List ℕ → Bool) → next [] ≡ true → behind true w next [] ≡ true
+word-cut [] next e = e
+word-cut (x ∷ w) next e = refl
+
+word-missing : (w : List ℕ) (next : List ℕ → Bool) → (length w ≡ 0 → next [] ≡ false) → behind false w next [] ≡ false
+word-missing [] next e = e refl
+word-missing (x ∷ w) next e = refl
+
+module _ (w : List ℕ) (next : List ℕ → Bool) (m b : ℕ) (l : m < length w) where
+  next-opens : next [] ≡ true → behind true w next (take m w ++ (b ∷ [])) ≡ eqb b (getD w m 0)
+  next-opens e =
+      word-next true w next m b l ∙ ap (λ x. eqb b (getD w m 0) && x) (word-cut (drop (suc m) w) next e)
+      ∙ and-true (eqb b (getD w m 0))
+
+  next-missing : (length w ≡ suc m → next [] ≡ false) → behind false w next (take m w ++ (b ∷ [])) ≡ false
+  next-missing e =
+      word-next false w next m b l
+      ∙ ap (λ x. eqb b (getD w m 0) && x)
+      (word-missing (drop (suc m) w) next (λ z. e (omega (arith, length-drop (suc m) w))))
+      ∙ and-false (eqb b (getD w m 0))
+
+-- The byte that announces a family is its header's first.
+pub starting-sound : (b : ℕ) (k : Kind) → startingWith b ≡ Some k → b ≡ getD (header k) 0 0
+starting-sound b k e = go (eqb b 0xF4) refl (eqb b 0xFD) refl e
+  where
+    go : (x : Bool) → eqb b 0xF4 ≡ x → (y : Bool) → eqb b 0xFD ≡ y
+        → orElse x (Some Report) (orElse y (Some Command) None) ≡ Some k → b ≡ getD (header k) 0 0
+    go true p y q e = let z : Report ≡ k = cc in rw (← z) (eqb-true b 0xF4 p)
+    go false p true q e = let z : Command ≡ k = cc in rw (← z) (eqb-true b 0xFD q)
+    go false p false q e = let z : _≡_ {A = ℕ} 0 1 = cc in absurd (omega arith)
+
+module _ (most : ℕ) where
+  -- With nothing before it: a byte begins a frame exactly if it is a header's first, F4 or FD.
+  first-opens : (k : Kind) → opens most (getD (header k) 0 0 ∷ []) ≡ true
+  unfolding opens reads
+  first-opens Report = refl
+  first-opens Command = refl
+
+  pub start-opens : (b : ℕ) (k : Kind) → startingWith b ≡ Some k → opens most (b ∷ []) ≡ true
+  start-opens b k e = rw (starting-sound b k e) (first-opens k)
+
+  pub start-strays : (b : ℕ) → startingWith b ≡ None → opens most (b ∷ []) ≡ false
+  unfolding opens
+  start-strays b e = rw e
+
+  one-missing : (o : MaybeKind) (b : ℕ) → readsAs false most o (b ∷ []) ≡ false
+  unfolding reads
+  one-missing (Some Report) b = and-false (eqb b 0xF4)
+  one-missing (Some Command) b = and-false (eqb b 0xFD)
+  one-missing None b = refl
+
+  pub start-not-whole : (b : ℕ) → wholes most (b ∷ []) ≡ false
+  unfolding wholes
+  start-not-whole b = one-missing (startingWith b) b
+
+  -- Within a header: the byte must be the header's next.
+  pub header-opens : (k : Kind) (m b : ℕ) → m < 3
+      → opens most (take (suc m) (header k) ++ (b ∷ [])) ≡ eqb b (getD (header k) (suc m) 0)
+  unfolding opens reads
+  header-opens Report m b u = next-opens (header Report) (readsLength true most Report) (suc m) b (omega arith) refl
+  header-opens Command m b u = next-opens (header Command) (readsLength true most Command) (suc m) b (omega arith) refl
+
+  pub header-not-whole : (k : Kind) (m b : ℕ) → m < 3 → wholes most (take (suc m) (header k) ++ (b ∷ [])) ≡ false
+  unfolding wholes reads
+  header-not-whole Report m b u =
+      next-missing (header Report) (readsLength false most Report) (suc m) b (omega arith) (λ z. refl)
+  header-not-whole Command m b u =
+      next-missing (header Command) (readsLength false most Command) (suc m) b (omega arith) (λ z. refl)
+
+  -- Behind a header: any byte, and then one that makes a length in range.
+  pub length-opens : (k : Kind) (b : ℕ) → opens most (header k ++ (b ∷ [])) ≡ true
+  length-opens k b = opens-header most k (b ∷ [])
+
+  pub length-not-whole : (k : Kind) (b : ℕ) → wholes most (header k ++ (b ∷ [])) ≡ false
+  length-not-whole k b = wholes-header most k (b ∷ [])
+
+  -- Behind a length: data bytes, at most as many as it says; then all of them and a part of the tail.
+  module _ (k : Kind) (lo hi : ℕ) (d : List ℕ) where
+    pub data-opens : length d ≤ little (lo ∷ hi ∷ [])
+        → opens most (header k ++ (lo ∷ hi ∷ d)) ≡ inRange most (little (lo ∷ hi ∷ []))
+    data-opens l =
+        opens-header most k (lo ∷ hi ∷ d)
+        ∙ rw (drop-of-length-le d l, word-cut (tail k) nothing refl) (and-true (inRange most (little (lo ∷ hi ∷ []))))
+
+    pub data-not-whole : length d ≤ little (lo ∷ hi ∷ []) → wholes most (header k ++ (lo ∷ hi ∷ d)) ≡ false
+    data-not-whole l =
+        wholes-header most k (lo ∷ hi ∷ d)
+        ∙ rw (drop-of-length-le d l, word-missing (tail k) nothing (λ z. absurd (omega (arith, tail-length k))))
+        (and-false (inRange most (little (lo ∷ hi ∷ []))))
+
+    module _ (l : length d ≡ little (lo ∷ hi ∷ [])) (r : inRange most (little (lo ∷ hi ∷ [])) ≡ true) where
+      -- What is behind all the data bytes is read as the tail.
+      tail-read : (cut : Bool) (t : List ℕ)
+          → readsLength cut most k (lo ∷ hi ∷ (d ++ t)) ≡ behind cut (tail k) nothing t
+      tail-read cut t = rw (drop-at d t (little (lo ∷ hi ∷ [])) l, r)
+
+      pub tail-opens : (m b : ℕ) → m < 4
+          → opens most (header k ++ (lo ∷ hi ∷ (d ++ (take m (tail k) ++ (b ∷ []))))) ≡ eqb b (getD (tail k) m 0)
+      tail-opens m b u =
+          opens-header most k (lo ∷ hi ∷ (d ++ (take m (tail k) ++ (b ∷ []))))
+          ∙ tail-read true (take m (tail k) ++ (b ∷ []))
+          ∙ next-opens (tail k) nothing m b (omega (arith, tail-length k)) refl
+
+      pub tail-not-whole : (m b : ℕ) → m < 3
+          → wholes most (header k ++ (lo ∷ hi ∷ (d ++ (take m (tail k) ++ (b ∷ []))))) ≡ false
+      tail-not-whole m b u =
+          wholes-header most k (lo ∷ hi ∷ (d ++ (take m (tail k) ++ (b ∷ []))))
+          ∙ tail-read false (take m (tail k) ++ (b ∷ []))
+          ∙ next-missing (tail k) nothing m b (omega (arith, tail-length k))
+          (λ z. absurd (omega (arith, tail-length k)))
+
+      tail-complete : (k : Kind) → behind false (tail k) nothing (tail k) ≡ true
+      tail-complete Report = refl
+      tail-complete Command = refl
+
+      pub tail-whole : wholes most (header k ++ (lo ∷ hi ∷ (d ++ tail k))) ≡ true
+      tail-whole = wholes-header most k (lo ∷ hi ∷ (d ++ tail k)) ∙ tail-read false (tail k) ∙ tail-complete k

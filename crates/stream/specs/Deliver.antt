@@ -1,0 +1,68 @@
+-- What a call delivers, and what the counters count: document 01, "The division of a stream".
+--   Answer         a frame, and the bytes of its payload: those that stand where the frame says they do
+--   decodes f      no check of the whole frame f fails
+--   delivered f    the frame that the whole frame f is read as, its payload counted in the parser's buffer
+--   payloadOf x s  the bytes of s at the place that the frame x gives its payload; none beside a report, or no frame
+--   decoding       whole frames, what delivers them, and "no frame"
+--   Counter        the four counters, and what each piece adds to them
+use mathlib.Core.Path.{_≡_, refl}
+use mathlib.Core.List.{List, []}
+use mathlib.Core.Bool.{Bool, true, false, not}
+use Prim.Native.Nat.{ℕ}
+use lib.ListN.{take, drop}
+use Rattle.wire.specs.declared.MaybeCheck.{MaybeCheck}
+use Rattle.wire.specs.declared.MaybeCheck.the-variants as Maybe
+use Rattle.frame.specs.Frame.{startingAt, noFrame, checkedFrame}
+use Rattle.frame.specs.declared.FrameKind.{FrameKind}
+use Rattle.frame.specs.declared.FrameKind.the-variants as Is
+use Rattle.frame.specs.declared.Frame.{Frame}
+use Rattle.framing.specs.Framing.{Piece}
+use Rattle.framing.specs.Tally.{Counting, resynced, lost, passed}
+
+abbrev pub Answer : Type 0
+Answer = Frame × List ℕ
+
+abbrev pub holds : MaybeCheck → Bool
+holds (Maybe.Some c) = false
+holds Maybe.None = true
+
+unfoldable pub decodes : List ℕ → Bool
+decodes f = holds (checkedFrame f .failed)
+
+-- "but with a payload's start counted in the parser's buffer"
+abbrev pub countedIn : FrameKind → ℕ → Frame → Frame
+countedIn Is.None i x = x
+countedIn Is.Report i x = x
+countedIn Is.Ack i x = record { kind = x .kind; report = x .report; ack = startingAt i (x .ack) }
+
+abbrev pub payloadIn : FrameKind → Frame → List ℕ → List ℕ
+payloadIn Is.None x s = []
+payloadIn Is.Report x s = []
+payloadIn Is.Ack x s = take (x .ack .payload .len) (drop (x .ack .payload .start) s)
+
+abbrev pub payloadOf : Frame → List ℕ → List ℕ
+payloadOf x s = payloadIn (x .kind) x s
+
+-- "the frame that points 2 to 4 of the link read from the whole frame's bytes"; in the buffer a payload starts at 4
+unfoldable pub delivered : List ℕ → Answer
+delivered f = (countedIn (checkedFrame f .frame .kind) 4 (checkedFrame f .frame), payloadOf (checkedFrame f .frame) f)
+
+abbrev pub nothing : Answer
+nothing = (noFrame, [])
+
+-- "A call delivers when its answer has a frame"
+abbrev pub isFrame : FrameKind → Bool
+isFrame Is.None = false
+isFrame Is.Report = true
+isFrame Is.Ack = true
+
+pub data Counter : Type 0 where
+  frames resyncs dropped malformed : Counter
+
+-- "`resyncs` counts broken starts. `dropped` counts stray bytes and the bytes of broken starts. `frames` counts whole
+-- frames that decode, `malformed` those that don't."
+abbrev pub adds : Counter → Piece → ℕ
+adds frames p = passed decodes p
+adds resyncs p = resynced p
+adds dropped p = lost p
+adds malformed p = passed (λ f. not (decodes f)) p

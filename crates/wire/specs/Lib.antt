@@ -1,0 +1,7 @@
+pub mod Refusal
+pub mod Check
+pub mod Family
+pub mod Number
+pub mod Counter
+pub mod Prefix
+pub mod Equal

@@ -1,0 +1,364 @@
+// What both directions of the LD2410's serial link share: the refusals and the checks that give them, the two frame
+// families, the numbers on the wire, the counters, and the copy of a prefix.
+//
+// Every function is total: what may be missing is a variant of its answer.
+ghost use mathlib.Core.Path.{_≡_};
+ghost use Prim.Native.Nat.{min};
+ghost use Rattle.wire.specs.Refusal.{numberOf, neededOf, refusalOf};
+ghost use Rattle.wire.specs.Check.{errorOf, outcomeOf};
+ghost use Rattle.wire.specs.Family.{header, tail, startingWith, headerOf};
+ghost use Rattle.wire.specs.Number.{byteAt, le16At, le32At};
+ghost use Rattle.wire.specs.Counter.{bumped};
+ghost use Rattle.wire.specs.Prefix.{pasted, prefixed, padded, gateSlice};
+ghost use Rattle.wire.specs.Equal.{sameBytes};
+
+// Number of distance gates the module reports: gates 0 to 8.
+pub const GATES: usize = 9;
+
+// Largest frame the stream parser accepts, header to tail inclusive.
+pub const MAX_FRAME: usize = 64;
+
+// Bytes of framing around the data: header (4), length (2), tail (4).
+pub const FRAMING: usize = 10;
+
+// Largest length the stream parser accepts.
+pub const MAX_DATA: usize = MAX_FRAME - FRAMING;
+
+// Reserved bytes kept from an engineering report.
+pub const MAX_EXTRA: usize = 8;
+
+// The bit that the module sets in an acknowledgement's command word.
+pub const ACK_BIT: u16 = 0x0100;
+
+// Where a counter stops.
+pub const COUNTER_MAX: u32 = 4_294_967_295;
+
+// Why a call is refused.
+pub enum Error {
+    // A layout that does not fit, another command's acknowledgement, a short payload.
+    InvalidFormat,
+    // An unknown report type; a command's gate or sensitivity that is too large.
+    Unsupported,
+    // The module acknowledged with a failure.
+    Hardware,
+    // The output is shorter than the frame, which takes `needed` bytes.
+    BufferTooSmall { needed: usize },
+    // A command frame to whose bytes no command encodes.
+    UnknownCommand,
+    // A value that no reader gives, or that the writer's lengths leave out.
+    Unrepresentable,
+}
+
+// Whether a call is refused, beside a value that is all 0 where it is.
+pub enum Outcome {
+    Ok,
+    Err(Error),
+}
+
+// The checks of a frame (F), of a report's data (R) and of an acknowledgement's data (A), in the order of document 01.
+pub enum Check {
+    F1,
+    F2,
+    F3,
+    F4,
+    R1,
+    R2,
+    R3,
+    R4,
+    R5,
+    R6,
+    R7,
+    R8,
+    A1,
+    A2,
+}
+
+// The check that failed first, if one did.
+pub enum MaybeCheck {
+    Some(Check),
+    None,
+}
+
+// Which frame family a header announces.
+pub enum Kind {
+    Report,
+    Command,
+}
+
+// A family, if there is one.
+pub enum MaybeKind {
+    Some(Kind),
+    None,
+}
+
+// A value for each gate, of which the first `count` are valid.
+pub struct GateSlice {
+    pub bytes: [u8; GATES],
+    pub count: usize,
+}
+
+// A number read from the wire, if its bytes are all there.
+pub enum MaybeU8 {
+    Some(u8),
+    None,
+}
+
+pub enum MaybeU16 {
+    Some(u16),
+    None,
+}
+
+pub enum MaybeU32 {
+    Some(u32),
+    None,
+}
+
+impl Error {
+    // The number that document 01 gives to the refusal, 1 to 6.
+    pub fn number(self) -> u8
+        ensures numbered { λ r. ⌜ r ≡ numberOf self ⌝ }
+    {
+        match self {
+            Error::InvalidFormat => 1,
+            Error::Unsupported => 2,
+            Error::Hardware => 3,
+            Error::BufferTooSmall { needed: _ } => 4,
+            Error::UnknownCommand => 5,
+            Error::Unrepresentable => 6,
+        }
+    }
+
+    // The bytes needed, with number 4; else 0.
+    pub fn needed(self) -> usize
+        ensures told { λ r. ⌜ r ≡ neededOf self ⌝ }
+    {
+        match self {
+            Error::BufferTooSmall { needed } => needed,
+            Error::InvalidFormat => 0,
+            Error::Unsupported => 0,
+            Error::Hardware => 0,
+            Error::UnknownCommand => 0,
+            Error::Unrepresentable => 0,
+        }
+    }
+}
+
+impl Outcome {
+    // The refusal's number, or 0 where nothing is refused.
+    pub fn number(self) -> u8
+        ensures numbered { λ r. ⌜ r ≡ refusalOf self ⌝ }
+    {
+        match self {
+            Outcome::Ok => 0,
+            Outcome::Err(e) => e.number(),
+        }
+    }
+}
+
+impl MaybeCheck {
+    // What a reader answers: the refusal that the first failed check gives, or none.
+    pub fn outcome(self) -> Outcome
+        ensures refused { λ r. ⌜ r ≡ outcomeOf self ⌝ }
+    {
+        match self {
+            MaybeCheck::Some(c) => Outcome::Err(c.error()),
+            MaybeCheck::None => Outcome::Ok,
+        }
+    }
+}
+
+impl GateSlice {
+    // The first `count` of the values, or all of them where there are fewer.
+    pub fn new(bytes: [u8; GATES], count: usize) -> Self
+        ensures made { λ r. ⌜ r ≡ gateSlice bytes count ⌝ }
+    {
+        GateSlice {
+            bytes,
+            count: least(count, GATES),
+        }
+    }
+}
+
+impl Check {
+    // The refusal that a reader gives where this check is the first that fails.
+    pub fn error(self) -> Error
+        ensures refused { λ r. ⌜ r ≡ errorOf self ⌝ }
+    {
+        match self {
+            Check::F1 => Error::InvalidFormat,
+            Check::F2 => Error::InvalidFormat,
+            Check::F3 => Error::InvalidFormat,
+            Check::F4 => Error::InvalidFormat,
+            Check::R1 => Error::InvalidFormat,
+            Check::R2 => Error::InvalidFormat,
+            Check::R3 => Error::InvalidFormat,
+            Check::R4 => Error::InvalidFormat,
+            Check::R5 => Error::InvalidFormat,
+            Check::R6 => Error::Unsupported,
+            Check::R7 => Error::InvalidFormat,
+            Check::R8 => Error::InvalidFormat,
+            Check::A1 => Error::InvalidFormat,
+            Check::A2 => Error::InvalidFormat,
+        }
+    }
+}
+
+impl Kind {
+    pub const REPORT_HEADER: [u8; 4] = [0xF4, 0xF3, 0xF2, 0xF1];
+
+    pub const REPORT_TAIL: [u8; 4] = [0xF8, 0xF7, 0xF6, 0xF5];
+
+    pub const COMMAND_HEADER: [u8; 4] = [0xFD, 0xFC, 0xFB, 0xFA];
+
+    pub const COMMAND_TAIL: [u8; 4] = [0x04, 0x03, 0x02, 0x01];
+
+    // The four bytes that begin a frame of this family.
+    pub fn header(self) -> [u8; 4]
+        ensures headed { λ r. ⌜ r ≡ header self ⌝ }
+    {
+        match self {
+            Kind::Report => Kind::REPORT_HEADER,
+            Kind::Command => Kind::COMMAND_HEADER,
+        }
+    }
+
+    // The four bytes that end it.
+    pub fn tail(self) -> [u8; 4]
+        ensures tailed { λ r. ⌜ r ≡ tail self ⌝ }
+    {
+        match self {
+            Kind::Report => Kind::REPORT_TAIL,
+            Kind::Command => Kind::COMMAND_TAIL,
+        }
+    }
+
+    // The family whose header starts with `byte`, if any.
+    pub fn starting_with(byte: u8) -> MaybeKind
+        ensures found { λ r. ⌜ r ≡ startingWith byte ⌝ }
+    {
+        match byte {
+            0xF4 => MaybeKind::Some(Kind::Report),
+            0xFD => MaybeKind::Some(Kind::Command),
+            _ => MaybeKind::None,
+        }
+    }
+
+    // The family whose header the four bytes are, if they are one.
+    pub fn of_header(bytes: &[u8]) -> MaybeKind
+        ensures found { λ r. ⌜ r ≡ headerOf (now (bytes .entry)) ⌝ }
+    {
+        let report = Kind::REPORT_HEADER;
+        if same(bytes, &report) {
+            return MaybeKind::Some(Kind::Report);
+        }
+        let command = Kind::COMMAND_HEADER;
+        if same(bytes, &command) {
+            return MaybeKind::Some(Kind::Command);
+        }
+        MaybeKind::None
+    }
+}
+
+// Whether two slices hold the same bytes.
+pub fn same(a: &[u8], b: &[u8]) -> bool
+    ensures compared { λ r. ⌜ r ≡ sameBytes (now (a .entry)) (now (b .entry)) ⌝ }
+{
+    if a.len() != b.len() {
+        return false;
+    }
+    let mut i = 0;
+    while i < a.len() {
+        if a[i] != b[i] {
+            return false;
+        }
+        i += 1;
+    }
+    true
+}
+
+// The byte at `at`, or `None` where the slice is too short.
+pub fn byte_at(bytes: &[u8], at: usize) -> MaybeU8
+    ensures read { λ r. ⌜ r ≡ byteAt (now (bytes .entry)) at ⌝ }
+{
+    if at < bytes.len() {
+        MaybeU8::Some(bytes[at])
+    } else {
+        MaybeU8::None
+    }
+}
+
+// Little-endian `u16` at `at`, or `None` where the slice is too short.
+pub fn le16(bytes: &[u8], at: usize) -> MaybeU16
+    ensures read { λ r. ⌜ r ≡ le16At (now (bytes .entry)) at ⌝ }
+{
+    let MaybeU8::Some(low) = byte_at(bytes, at) else {
+        return MaybeU16::None;
+    };
+    let MaybeU8::Some(high) = byte_at(bytes, at + 1) else {
+        return MaybeU16::None;
+    };
+    MaybeU16::Some(low as u16 + 256 * (high as u16))
+}
+
+// Little-endian `u32` at `at`, or `None` where the slice is too short.
+pub fn le32(bytes: &[u8], at: usize) -> MaybeU32
+    ensures read { λ r. ⌜ r ≡ le32At (now (bytes .entry)) at ⌝ }
+{
+    let MaybeU16::Some(low) = le16(bytes, at) else {
+        return MaybeU32::None;
+    };
+    let MaybeU16::Some(high) = le16(bytes, at + 2) else {
+        return MaybeU32::None;
+    };
+    MaybeU32::Some(low as u32 + 65536 * (high as u32))
+}
+
+// The counter after `by` more, which stops at `COUNTER_MAX`.
+pub fn bump(counter: u32, by: usize) -> u32
+    ensures counted { λ r. ⌜ r ≡ bumped counter by ⌝ }
+{
+    let room = COUNTER_MAX - counter;
+    if by <= room as usize {
+        counter + by as u32
+    } else {
+        COUNTER_MAX
+    }
+}
+
+// The smaller of two numbers.
+pub fn least(a: usize, b: usize) -> usize
+    ensures chosen { λ r. ⌜ r ≡ min a b ⌝ }
+{
+    if a <= b { a } else { b }
+}
+
+// Copies as much of `src` as fits into `dst` from place `at` on.
+fn copy_at(dst: &mut [u8], at: usize, src: &[u8])
+    ensures copied { λ _. ⌜ now (dst .exit) ≡ pasted (now (dst .entry)) at (now (src .entry)) ⌝ }
+{
+    if dst.len() < at {
+        return;
+    }
+    let n = least(dst.len() - at, src.len());
+    let mut i = 0;
+    while i < n {
+        dst[at + i] = src[i];
+        i += 1;
+    }
+}
+
+// Copies as much of `src` as fits into the front of `dst`.
+pub fn copy_prefix(dst: &mut [u8], src: &[u8])
+    ensures copied { λ _. ⌜ now (dst .exit) ≡ prefixed (now (dst .entry)) (now (src .entry)) ⌝ }
+{
+    copy_at(dst, 0, src);
+}
+
+// The first bytes of `src` in an array with a place for each gate, 0 where `src` has none.
+pub fn gate_array(src: &[u8]) -> [u8; GATES]
+    ensures copied { λ r. ⌜ r ≡ padded 9 (now (src .entry)) ⌝ }
+{
+    let mut bytes: [u8; GATES] = [0; GATES];
+    copy_prefix(&mut bytes, src);
+    bytes
+}
