@@ -1,0 +1,59 @@
+-- `documents::text::bytes` is safe and ends: what is left of the values falls. Assumes nothing.
+use Prim.Native.Nat.{_≤_, _-_}
+use borrow.Author.Needs.{needs}
+use lib.ListN.{length}
+use Rattle.documents.proofs.text.bytes.Statement.{statement}
+use Rattle.documents.proofs.text.bytes.Tie as tie
+
+abbrev Inv-loop : tie.InvT-loop
+Inv-loop name values i₀ t4 i = i ≤ length values
+
+abbrev μ-loop : tie.MeasureT-loop
+μ-loop name values i₀ t4 i = length values - i
+
+text-requires : tie.Need-text-requires Inv-loop μ-loop
+text-requires c κs = search needs
+
+loop-holds : tie.Need-loop-holds Inv-loop μ-loop
+loop-holds c = search needs
+
+slice-aggregate-hex : tie.Need-slice-aggregate-hex Inv-loop μ-loop
+slice-aggregate-hex c = search needs
+
+shared-slice-read-wide : tie.Need-shared-slice-read-wide Inv-loop μ-loop
+shared-slice-read-wide c = search needs
+
+wide-requires : tie.Need-wide-requires Inv-loop μ-loop
+wide-requires c κs = search needs
+
+hex-requires : tie.Need-hex-requires Inv-loop μ-loop
+hex-requires c κs = search needs
+
+add-i : tie.Need-add-i Inv-loop μ-loop
+add-i c = search needs
+
+loop-less : tie.Need-loop-less Inv-loop μ-loop
+loop-less c = search needs
+
+loop-again : tie.Need-loop-again Inv-loop μ-loop
+loop-again c = search needs
+
+returns : tie.Need-returns Inv-loop μ-loop
+returns c = search needs
+
+pub bytes-spec : {M : Type 1} → statement M
+bytes-spec =
+    tie.close
+    (tie.spec
+    Inv-loop
+    μ-loop
+    text-requires
+    loop-holds
+    slice-aggregate-hex
+    shared-slice-read-wide
+    wide-requires
+    hex-requires
+    add-i
+    loop-less
+    loop-again
+    returns)

@@ -1,0 +1,86 @@
+// Holds the readers against the documents: it reads the bytes that document 01 and the maker's documents print, and
+// writes a line for each. The file stdout beside src/ has what the documents say of them, written by hand.
+use ack::word;
+use frame::FrameKind;
+
+mod acks;
+mod published;
+mod reports;
+mod text;
+mod tried;
+
+// What a whole frame holds.
+fn kind(kind: FrameKind) {
+    match kind {
+        FrameKind::None => text::text(b", no frame"),
+        FrameKind::Report => text::text(b", report"),
+        FrameKind::Ack => text::text(b", ack"),
+    }
+}
+
+// The rows of document 01's "Bytes to try" about readers.
+fn tried_rows() {
+    reports::in_frame(b"B", &tried::B);
+    reports::in_data(b"B's data", &tried::B_DATA);
+    reports::in_data(b"type 03", &tried::TYPE_3);
+    reports::in_data(b"type 03, eight basic bytes", &tried::TYPE_3_SHORT);
+    reports::in_data(b"max_moving_gate 8", &tried::MAX_GATE_8);
+    reports::in_data(b"max_moving_gate 9", &tried::MAX_GATE_9);
+    acks::in_data(b"FF 01 01 00", &tried::FAILED_ACK, word::ENABLE_CONFIG);
+    acks::in_data(b"FF 01 01 00", &tried::FAILED_ACK, word::READ_PARAMETERS);
+}
+
+// The published reports.
+fn published_reports() {
+    reports::in_frame(b"basic report", &published::BASIC);
+    reports::in_frame(b"engineering report", &published::ENGINEERING);
+}
+
+// The published acknowledgements of commands that configure, in the documents' order.
+fn published_settings() {
+    acks::enable_config(b"EnableConfig", &published::ENABLE_CONFIG);
+    acks::plain(b"EndConfig", &published::END_CONFIG, word::END_CONFIG);
+    acks::plain(
+        b"SetMaxGates",
+        &published::SET_MAX_GATES,
+        word::SET_MAX_GATES,
+    );
+    acks::parameters(b"ReadParameters", &published::READ_PARAMETERS);
+    acks::plain(
+        b"EngineeringMode on",
+        &published::ENGINEERING_ON,
+        word::ENGINEERING_ON,
+    );
+    acks::plain(
+        b"EngineeringMode off",
+        &published::ENGINEERING_OFF,
+        word::ENGINEERING_OFF,
+    );
+    acks::plain(
+        b"SetSensitivity",
+        &published::SET_SENSITIVITY,
+        word::SET_SENSITIVITY,
+    );
+}
+
+// Those of commands about the module itself.
+fn published_module() {
+    acks::firmware_version(b"ReadFirmware", &published::READ_FIRMWARE);
+    acks::firmware_version(b"ReadFirmware, LD2410C", &published::READ_FIRMWARE_C);
+    acks::plain(b"SetBaud", &published::SET_BAUD, word::SET_BAUD);
+    acks::plain(
+        b"FactoryReset",
+        &published::FACTORY_RESET,
+        word::FACTORY_RESET,
+    );
+    acks::plain(b"Restart", &published::RESTART, word::RESTART);
+    acks::plain(b"Bluetooth", &published::BLUETOOTH, word::BLUETOOTH);
+    acks::mac(b"ReadMac", &published::READ_MAC);
+}
+
+fn main() {
+    tried_rows();
+    published_reports();
+    published_settings();
+    published_module();
+}
