@@ -13,17 +13,18 @@ use Rattle.framing.proofs.Until.{until-invariant}
 use Rattle.stream.specs.Link.{link}
 use Rattle.stream.specs.Deliver.{Answer, Counter, frames, resyncs, dropped, malformed}
 use Rattle.stream.specs.Decoding.{decoding, counting}
-use Rattle.parser.specs.Scan.{hunting, inOrder, settled, pendingOf}
-use Rattle.parser.specs.Step.{stepOf, stored}
-use Rattle.parser.specs.Slice.{runOf}
+use Rattle.scan.specs.Scan.{hunting, inOrder, settled, pendingOf, unfinishedBy}
+use Rattle.scan.specs.Step.{stepOf, stored}
+use Rattle.scan.specs.Slice.{runOf}
 use Rattle.parser.specs.Feed.{bufOf, movedOf, put, feedOf, sliceBufOf, sliceMovedOf, feedSliceOf, resetOf}
-use Rattle.parser.specs.Feed.{unfinishedAt, unfinishedOf}
+use Rattle.parser.specs.Feed.{unfinishedOf}
 use Rattle.parser.specs.Engine.{counterIn, pendingBy, engine}
-use Rattle.parser.specs.declared.Scan.{Scan}
+use Rattle.scan.specs.declared.Scan.{Scan}
 use Rattle.parser.specs.declared.Parser.{Parser}
-use Rattle.parser.proofs.Follow.{Capped}
-use Rattle.parser.proofs.Waiting.{waits, pending-length}
-use Rattle.parser.proofs.Feeding.{Valid, settled-order, settled-same, one-follows, one-scan, one-answer, one-counter, one-valid}
+use Rattle.scan.proofs.Follow.{Capped}
+use Rattle.scan.proofs.Waiting.{waits, pending-length}
+use Rattle.scan.proofs.Orders.{settled-order, settled-same}
+use Rattle.parser.proofs.Feeding.{Valid, one-follows, one-scan, one-answer, one-counter, one-valid}
 use Rattle.parser.proofs.Slicing.{sliceAs, until}
 
 module _ (most : ℕ) (small : most < 65536) where
@@ -98,7 +99,7 @@ module _ (most : ℕ) (small : most < 65536) where
   hunting-pending p = refl
 
   pub lawful : Lawful (link most) decoding counting (engine most) (Valid most)
-  unfolding unfinishedOf
+  unfolding unfinishedOf unfinishedBy
   lawful = record {
     feed-valid = fed-valid;
     feed-pending = fed-pending;

@@ -25,41 +25,26 @@ use Rattle.stream.specs.Link.{link}
 use Rattle.stream.specs.Deliver.{Answer, holds, decodes, delivered, payloadOf, Counter, frames, resyncs, dropped, malformed}
 use Rattle.stream.specs.Decoding.{decoding, counting}
 use Rattle.stream.proofs.Delivered.{decodes-framed, delivered-framed, decoded-failed}
-use Rattle.parser.specs.Scan.{hunting, inOrder, orHunting, settled, pendingOf}
-use Rattle.parser.specs.Step.{stepOf, storedIn, stored}
-use Rattle.parser.specs.Feed.{counted, emitted, bufOf, movedOf, put, feedOf}
+use Rattle.scan.specs.Scan.{hunting, inOrder, orHunting, settled, pendingOf}
+use Rattle.scan.specs.Step.{stepOf, storedIn, stored, counted}
+use Rattle.parser.specs.Feed.{emitted, bufOf, movedOf, put, feedOf}
 use Rattle.parser.specs.Engine.{answerOf, counterIn, pendingBy, engine}
-use Rattle.parser.specs.declared.State.{State}
-use Rattle.parser.specs.declared.State.the-variants.{Header, Len, Data, Tail}
-use Rattle.parser.specs.declared.Scan.{Scan}
-use Rattle.parser.specs.declared.Stats.{Stats}
+use Rattle.scan.specs.declared.State.{State}
+use Rattle.scan.specs.declared.State.the-variants.{Header, Len, Data, Tail}
+use Rattle.scan.specs.declared.Scan.{Scan}
+use Rattle.scan.specs.declared.Stats.{Stats}
 use Rattle.parser.specs.declared.Parser.{Parser}
-use Rattle.parser.specs.declared.Stepped.{Stepped}
+use Rattle.scan.specs.declared.Stepped.{Stepped}
 use Rattle.parser.specs.declared.Moved.{Moved}
-use Rattle.parser.specs.declared.Ended.{Ended}
-use Rattle.parser.specs.declared.Ended.the-variants.{Frame, Nothing}
-use Rattle.parser.proofs.Follow.{Capped, endedAs, Fits, Follows}
-use Rattle.parser.proofs.Steps.{follows}
+use Rattle.scan.specs.declared.Ended.{Ended}
+use Rattle.scan.specs.declared.Ended.the-variants.{Frame, Nothing}
+use Rattle.scan.proofs.Follow.{Capped, endedAs, Fits, Follows}
+use Rattle.scan.proofs.Steps.{follows}
 
 -- What a parser's type says of it: the buffer has room for the largest length, and no counter is past its most.
 pub record Valid (most : ℕ) (p : Parser) : Type 0 where
   pub room : most ≤ length (p .buf)
   pub capped : Capped (p .stats)
-
--- A settled scan is in order, and one in order is settled.
-module _ (most : ℕ) where
-  order-as : (c : Scan) (x : Bool) → inOrder most c ≡ x → inOrder most (orHunting x c) ≡ true
-  unfolding inOrder
-  order-as c true e = e
-  order-as c false e = refl
-
-  pub settled-order : (c : Scan) → inOrder most (settled most c) ≡ true
-  unfolding settled
-  settled-order c = order-as c (inOrder most c) refl
-
-  pub settled-same : (c : Scan) → inOrder most c ≡ true → settled most c ≡ c
-  unfolding settled
-  settled-same c e = rw e
 
 -- Whole frames that pass a test, among the pieces that a byte closed: the one that it ended, if any.
 abbrev pub endedCount : (List ℕ → Bool) → Option (List ℕ) → ℕ

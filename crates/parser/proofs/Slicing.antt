@@ -12,20 +12,21 @@ use Rattle.framing.specs.Lawful.{stopIf, feedUntil}
 use Rattle.stream.specs.Link.{link}
 use Rattle.stream.specs.Deliver.{Answer}
 use Rattle.stream.specs.Decoding.{decoding}
-use Rattle.parser.specs.Scan.{inOrder, settled, pendingOf}
-use Rattle.parser.specs.Step.{stepOf, stored}
-use Rattle.parser.specs.Slice.{Run, runAt, thenRun, runOf}
+use Rattle.scan.specs.Scan.{inOrder, settled, pendingOf}
+use Rattle.scan.specs.Step.{stepOf, stored}
+use Rattle.scan.specs.Slice.{Run, runAt, thenRun, runOf}
 use Rattle.parser.specs.Feed.{emitted, bufOf, movedOf, put, feedOf}
 use Rattle.parser.specs.Engine.{answerOf, engine}
-use Rattle.parser.specs.declared.Scan.{Scan}
-use Rattle.parser.specs.declared.Stats.{Stats}
+use Rattle.scan.specs.declared.Scan.{Scan}
+use Rattle.scan.specs.declared.Stats.{Stats}
 use Rattle.parser.specs.declared.Parser.{Parser}
 use Rattle.parser.specs.declared.Fed.{Fed}
 use Rattle.parser.specs.declared.Moved.{Moved}
-use Rattle.parser.specs.declared.Ended.{Ended}
-use Rattle.parser.specs.declared.Ended.the-variants.{Frame, Nothing}
-use Rattle.parser.proofs.Follow.{Capped, endedAs}
-use Rattle.parser.proofs.Feeding.{Valid, settled-same, one-follows, one-room, one-capped, one-valid}
+use Rattle.scan.specs.declared.Ended.{Ended}
+use Rattle.scan.specs.declared.Ended.the-variants.{Frame, Nothing}
+use Rattle.scan.proofs.Follow.{Capped, endedAs}
+use Rattle.scan.proofs.Orders.{settled-same}
+use Rattle.parser.proofs.Feeding.{Valid, one-follows, one-room, one-capped, one-valid}
 
 -- What a run, or one byte, gives back.
 abbrev pub sliceAs : Run → Sliced Parser Answer

@@ -9,9 +9,9 @@ use Rattle.wire.specs.Counter.{counterMost}
 use Rattle.frame.specs.declared.Frame.{Frame}
 use Rattle.framing.specs.Engine.{Engine}
 use Rattle.stream.specs.Deliver.{Answer, payloadOf, Counter, frames, resyncs, dropped, malformed}
-use Rattle.parser.specs.Scan.{settled, pendingOf}
+use Rattle.scan.specs.Scan.{settled, pendingOf}
 use Rattle.parser.specs.Feed.{feedOf, feedSliceOf, resetOf, unfinishedOf}
-use Rattle.parser.specs.declared.Stats.{Stats}
+use Rattle.scan.specs.declared.Stats.{Stats}
 use Rattle.parser.specs.declared.Parser.{Parser}
 
 abbrev pub answerOf : Frame → Parser → Answer

@@ -1,6 +1,5 @@
 -- What the calls do to a parser: a byte fed, a slice fed, a reset.
 --   fresh              a parser that has taken nothing: every byte of the buffer and every number 0
---   counted o st       the counters after a whole frame, by the check that its data failed, if one did
 --   emitted            what a step that ended a frame, or none, leaves and answers
 --   movedOf, bufOf     a byte fed: the scan, the counters and the answer; the buffer
 --   sliceMovedOf, sliceBufOf   the same of a slice
@@ -9,23 +8,18 @@
 -- A scan out of range is handled "as if reset came first". What document 01 leaves free: fields without use in a state are
 -- 0, and buffer bytes that belong to no frame stay as they were.
 use mathlib.Core.List.{List}
-use Prim.Native.Nat.{ℕ, _+_}
+use Prim.Native.Nat.{ℕ}
 use lib.ListN.{take, replicate}
-use Rattle.wire.specs.Counter.{bumped}
-use Rattle.wire.specs.declared.MaybeCheck.{MaybeCheck}
-use Rattle.wire.specs.declared.MaybeCheck.the-variants.{Some, None}
 use Rattle.frame.specs.Frame.{noFrame, decoded}
 use Rattle.frame.specs.declared.Frame.{Frame}
-use Rattle.parser.specs.Scan.{hunting, settled}
-use Rattle.parser.specs.Step.{stepOf, stored}
-use Rattle.parser.specs.Slice.{Run, runOf}
-use Rattle.parser.specs.declared.State.{State}
-use Rattle.parser.specs.declared.State.the-variants.{Header, Len, Data, Tail}
-use Rattle.parser.specs.declared.Scan.{Scan}
-use Rattle.parser.specs.declared.Stats.{Stats}
+use Rattle.scan.specs.Scan.{hunting, settled, unfinishedBy}
+use Rattle.scan.specs.Step.{stepOf, stored, counted}
+use Rattle.scan.specs.Slice.{Run, runOf}
+use Rattle.scan.specs.declared.Scan.{Scan}
+use Rattle.scan.specs.declared.Stats.{Stats}
 use Rattle.parser.specs.declared.Parser.{Parser}
-use Rattle.parser.specs.declared.Ended.{Ended}
-use Rattle.parser.specs.declared.Ended.the-variants as Is
+use Rattle.scan.specs.declared.Ended.{Ended}
+use Rattle.scan.specs.declared.Ended.the-variants as Is
 use Rattle.parser.specs.declared.Moved.{Moved}
 use Rattle.parser.specs.declared.Taken.{Taken}
 use Rattle.parser.specs.declared.MovedSlice.{MovedSlice}
@@ -37,21 +31,6 @@ noStats = record { frames = 0; resyncs = 0; dropped = 0; malformed = 0 }
 
 abbrev pub fresh : Parser
 fresh = record { buf = replicate 64 0; scan = hunting; stats = noStats }
-
--- "`frames` counts whole frames that decode, `malformed` those that don't"
-abbrev pub counted : MaybeCheck → Stats → Stats
-counted (Some c) st = record {
-  frames = st .frames;
-  resyncs = st .resyncs;
-  dropped = st .dropped;
-  malformed = bumped (st .malformed) 1;
-}
-counted None st = record {
-  frames = bumped (st .frames) 1;
-  resyncs = st .resyncs;
-  dropped = st .dropped;
-  malformed = st .malformed;
-}
 
 abbrev pub emitted : Ended → Scan → Stats → List ℕ → Moved
 emitted Is.Nothing c st buf = record { scan = c; stats = st; answer = noFrame }
@@ -97,14 +76,5 @@ feedSliceOf most p bs =
 abbrev pub resetOf : Parser → Parser
 resetOf p = put (p .buf) hunting (p .stats)
 
-abbrev pub unfinishedIn : State → ℕ → ℕ → ℕ → ℕ
-unfinishedIn Header m n p = m
-unfinishedIn Len m n p = 4 + m
-unfinishedIn Data m n p = 6 + p
-unfinishedIn Tail m n p = 6 + n + m
-
-abbrev pub unfinishedAt : Scan → ℕ
-unfinishedAt c = unfinishedIn (c .state) (c .matched) (c .len) (c .pos)
-
 unfoldable pub unfinishedOf : ℕ → Parser → ℕ
-unfinishedOf most p = unfinishedAt (settled most (p .scan))
+unfinishedOf most p = unfinishedBy most (p .scan)

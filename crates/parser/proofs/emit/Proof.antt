@@ -8,12 +8,6 @@ use denote.Ref.{now}
 use Rattle.wire.proofs.Prefixes.{take-least}
 use Rattle.parser.proofs.emit.Statement.{statement}
 use Rattle.parser.proofs.emit.Tie as tie
-use Rattle.parser.proofs.emit.Reads as reads
-use Rattle.parser.proofs.emit.Lts as lts
-use Rattle.frame.proofs.Frame.decode.Reads as decode-reads
-use Rattle.frame.proofs.Frame.none.Reads as none-reads
-use Rattle.parser.proofs.Stats.count.Reads as count-reads
-use Rattle.wire.proofs.least.Reads as least-reads
 
 enum-known-ended : tie.Need-enum-known-ended
 enum-known-ended c = search needs

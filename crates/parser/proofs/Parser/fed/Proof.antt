@@ -2,9 +2,6 @@ use borrow.Author.Needs.{needs}
 use Rattle.parser.specs.Feed.{feedOf}
 use Rattle.parser.proofs.Parser.fed.Statement.{statement}
 use Rattle.parser.proofs.Parser.fed.Tie as tie
-use Rattle.parser.proofs.Parser.fed.Reads as reads
-use Rattle.parser.proofs.Parser.fed.Lts as lts
-use Rattle.parser.proofs.feed_at.Reads as feed-at-reads
 
 feed-at-requires : tie.Need-feed-at-requires
 feed-at-requires c κs = search needs

@@ -2,9 +2,6 @@ use borrow.Author.Needs.{needs}
 use Rattle.parser.specs.Feed.{feedSliceOf}
 use Rattle.parser.proofs.Parser.fed_slice.Statement.{statement}
 use Rattle.parser.proofs.Parser.fed_slice.Tie as tie
-use Rattle.parser.proofs.Parser.fed_slice.Reads as reads
-use Rattle.parser.proofs.Parser.fed_slice.Lts as lts
-use Rattle.parser.proofs.feed_slice_at.Reads as feed-slice-at-reads
 
 feed-slice-at-requires : tie.Need-feed-slice-at-requires
 feed-slice-at-requires c κs = search needs

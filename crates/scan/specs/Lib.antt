@@ -1,0 +1,4 @@
+pub mod Scan
+pub mod Step
+pub mod Slice
+pub mod Phase
