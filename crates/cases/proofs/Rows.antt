@@ -1,0 +1,83 @@
+-- The rows hold. What a row should say is computed from its bytes or its calls, once for each table, and compared with
+-- what it says; that the scanner's pieces are a division is a law of the crate `framing`.
+use mathlib.Core.Path.{_≡_, refl, subst, ap}
+use mathlib.Core.List.{List, map}
+use Rattle.wire.specs.Counter.{bumped}
+use Rattle.wire.specs.Equal.{sameBytes}
+use Rattle.wire.specs.Family.{headerOf}
+use Rattle.report.specs.State.{stateOf}
+use Rattle.report.specs.Report.{reportOf}
+use Rattle.ack.specs.Ack.{ackOf}
+use Rattle.frame.specs.Frame.{decoded, checkedFrame}
+use Rattle.framing.specs.Bytes.{Every}
+use Rattle.framing.specs.Framing.{Piece}
+use Rattle.framing.specs.Division.{Division}
+use Rattle.framing.specs.Scanner.{pieces}
+use Rattle.framing.specs.Calls.{Did, feeds}
+use Rattle.framing.proofs.Scanner.{division-exists}
+use Rattle.stream.specs.Scan.{reads, opens, wholes}
+use Rattle.stream.specs.Link.{link}
+use Rattle.stream.specs.Deliver.{Answer, decodes}
+use Rattle.scan.specs.Scan.{inOrder, settled, unfinishedBy}
+use Rattle.scan.specs.Step.{abandoned, startOf, stepOf, stored}
+use Rattle.scan.specs.Slice.{runOf}
+use Rattle.parser.specs.Feed.{fresh, bufOf, movedOf, sliceBufOf, sliceMovedOf, feedOf, feedSliceOf, unfinishedOf}
+use Rattle.parser.specs.Claims.{did, left}
+use Rattle.cases.specs.Row.{Numbers, addedUp, countedBy, Stream, StreamHolds, Run, RunHolds}
+use Rattle.cases.specs.Streams.{streams}
+use Rattle.cases.specs.Runs.{runs}
+use Rattle.cases.proofs.Agree.{agree, every-map}
+
+-- A stream's pieces and numbers, as computed and as the row says.
+record Found : Type 0 where
+  pub pieces : List Piece
+  pub added : Numbers
+  pub counted : Numbers
+
+abbrev found : Stream → Found
+found r = record {
+  pieces = pieces (link 54) (r .bytes);
+  added = addedUp (r .pieces);
+  counted = countedBy (left fresh (feeds (r .bytes)));
+}
+
+abbrev said : Stream → Found
+said r = record { pieces = r .pieces; added = r .numbers; counted = r .numbers }
+
+streams-computed : map found streams ≡ map said streams
+unfolding reads opens wholes decodes checkedFrame headerOf sameBytes decoded inOrder settled abandoned startOf stepOf
+    stored bufOf movedOf feedOf unfinishedOf unfinishedBy bumped
+streams-computed = refl
+
+stream-holds : (r : Stream) → found r ≡ said r → StreamHolds r
+stream-holds r e = record {
+  divided = subst (λ (ps : List Piece). Division (link 54) (r .bytes) ps) (ap (λ (x : Found). x .pieces) e)
+      (division-exists (link 54) (r .bytes));
+  added = ap (λ (x : Found). x .added) e;
+  counted = ap (λ (x : Found). x .counted) e;
+}
+
+pub streams-hold : Every StreamHolds streams
+streams-hold = every-map stream-holds streams (agree found said streams streams-computed)
+
+-- A run's history and numbers, as computed and as the row says.
+record Ran : Type 0 where
+  pub history : List (Did Answer)
+  pub numbers : Numbers
+
+abbrev ran : Run → Ran
+ran r = record { history = did (r .start) (r .calls); numbers = countedBy (left (r .start) (r .calls)) }
+
+abbrev told : Run → Ran
+told r = record { history = r .history; numbers = r .numbers }
+
+runs-computed : map ran runs ≡ map told runs
+unfolding decoded reportOf ackOf inOrder settled abandoned startOf stepOf stored bufOf movedOf feedOf runOf
+    sameBytes stateOf sliceBufOf sliceMovedOf feedSliceOf unfinishedOf unfinishedBy bumped
+runs-computed = refl
+
+run-holds : (r : Run) → ran r ≡ told r → RunHolds r
+run-holds r e = record { done = ap (λ (x : Ran). x .history) e; counted = ap (λ (x : Ran). x .numbers) e }
+
+pub runs-hold : Every RunHolds runs
+runs-hold = every-map run-holds runs (agree ran told runs runs-computed)

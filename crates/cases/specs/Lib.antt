@@ -1,0 +1,10 @@
+-- Bytes to try, in reading order.
+
+-- What a row says, and when it holds.
+pub mod Row
+-- Document 01's streams.
+pub mod Streams
+-- Runs of calls that deliver, or stop counting.
+pub mod Runs
+-- The theorem.
+pub mod Claims

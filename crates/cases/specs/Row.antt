@@ -1,0 +1,71 @@
+-- What a row of a table says, and when it holds.
+--   Numbers       the four counters, and the length of the unfinished end
+--   addedUp ps    the numbers that the pieces ps add up to
+--   countedBy p   the numbers that the parser p tells
+--   Stream        bytes, the pieces that they divide into, and their numbers
+--   StreamHolds   the row is so by the definition of a division, and by the parser
+--   Run           calls on a parser, what they do, and the numbers that they leave
+--   RunHolds      the row is so by the parser
+use mathlib.Core.Path.{_≡_}
+use mathlib.Core.List.{List}
+use Prim.Native.Nat.{ℕ}
+use Rattle.framing.specs.Framing.{Piece}
+use Rattle.framing.specs.Division.{Division}
+use Rattle.framing.specs.Tally.{sum, waiting, total}
+use Rattle.framing.specs.Calls.{Call, Did, feeds}
+use Rattle.stream.specs.Link.{link}
+use Rattle.stream.specs.Deliver.{Answer, frames, resyncs, dropped, malformed}
+use Rattle.stream.specs.Decoding.{counting}
+use Rattle.parser.specs.Feed.{fresh, unfinishedOf}
+use Rattle.parser.specs.Claims.{did, left}
+use Rattle.parser.specs.declared.Parser.{Parser}
+
+pub record Numbers : Type 0 where
+  pub frames : ℕ
+  pub resyncs : ℕ
+  pub dropped : ℕ
+  pub malformed : ℕ
+  pub unfinished : ℕ
+
+abbrev pub addedUp : List Piece → Numbers
+addedUp ps = record {
+  frames = total counting frames ps;
+  resyncs = total counting resyncs ps;
+  dropped = total counting dropped ps;
+  malformed = total counting malformed ps;
+  unfinished = sum waiting ps;
+}
+
+abbrev pub countedBy : Parser → Numbers
+countedBy p = record {
+  frames = p .stats .frames;
+  resyncs = p .stats .resyncs;
+  dropped = p .stats .dropped;
+  malformed = p .stats .malformed;
+  unfinished = unfinishedOf 54 p;
+}
+
+pub record Stream : Type 0 where
+  pub bytes : List ℕ
+  pub pieces : List Piece
+  pub numbers : Numbers
+
+pub record StreamHolds (r : Stream) : Type 0 where
+  -- the bytes divide into the pieces, and no others: a division is the only one
+  pub divided : Division (link 54) (r .bytes) (r .pieces)
+  -- the pieces add up to the numbers
+  pub added : addedUp (r .pieces) ≡ r .numbers
+  -- a fresh parser that is fed the bytes one by one tells the numbers
+  pub counted : countedBy (left fresh (feeds (r .bytes))) ≡ r .numbers
+
+pub record Run : Type 0 where
+  pub start : Parser
+  pub calls : List Call
+  pub history : List (Did Answer)
+  pub numbers : Numbers
+
+pub record RunHolds (r : Run) : Type 0 where
+  -- the calls answer and tell what the row says
+  pub done : did (r .start) (r .calls) ≡ r .history
+  -- the parser that they leave tells the numbers
+  pub counted : countedBy (left (r .start) (r .calls)) ≡ r .numbers

@@ -1,0 +1,55 @@
+-- The stream rows of document 01, "Bytes to try": "Stream rows start fresh." Where the document names some of the five
+-- numbers, the others are those of its division.
+--   b           "B is F4 F3 F2 F1 0D 00 02 AA 03 78 00 3C 96 00 2D C8 00 55 00 F8 F7 F6 F5"
+--   bare        a command frame that is no acknowledgement: its data are a word alone
+--   numbers     frames, resyncs, dropped, malformed and unfinished, in the order in which they are printed
+--   streams     the rows
+use mathlib.Core.List.{List, [], _∷_, _++_}
+use Prim.Native.Nat.{ℕ}
+use lib.ListN.{take}
+use Rattle.framing.specs.Framing.{Piece, stray, broken, whole, unfinished}
+use Rattle.cases.specs.Row.{Numbers, Stream}
+
+abbrev pub b : List ℕ
+b = 0xF4 ∷ 0xF3 ∷ 0xF2 ∷ 0xF1 ∷ 0x0D ∷ 0x00 ∷ 0x02 ∷ 0xAA ∷ 0x03 ∷ 0x78 ∷ 0x00 ∷ 0x3C ∷ 0x96 ∷ 0x00 ∷ 0x2D ∷ 0xC8
+    ∷ 0x00 ∷ 0x55 ∷ 0x00 ∷ 0xF8 ∷ 0xF7 ∷ 0xF6 ∷ 0xF5 ∷ []
+
+abbrev pub bare : List ℕ
+bare = 0xFD ∷ 0xFC ∷ 0xFB ∷ 0xFA ∷ 0x02 ∷ 0x00 ∷ 0xFF ∷ 0x00 ∷ 0x04 ∷ 0x03 ∷ 0x02 ∷ 0x01 ∷ []
+
+abbrev pub numbers : (frames resyncs dropped malformed unfinished : ℕ) → Numbers
+numbers f r d m u = record { frames = f; resyncs = r; dropped = d; malformed = m; unfinished = u }
+
+abbrev row : List ℕ → List Piece → Numbers → Stream
+row s ps n = record { bytes = s; pieces = ps; numbers = n }
+
+abbrev pub streams : List Stream
+streams =
+    -- "no bytes: all counters 0"
+    row [] [] (numbers 0 0 0 0 0)
+    -- "F4 F4: resyncs 1, dropped 1, unfinished 1"
+    ∷ row (0xF4 ∷ 0xF4 ∷ []) (broken (0xF4 ∷ []) ∷ unfinished (0xF4 ∷ []) ∷ []) (numbers 0 1 1 0 1)
+    -- "B: one frame"
+    ∷ row b (whole b ∷ []) (numbers 1 0 0 0 0)
+    -- "B with last byte 00: resyncs 1, dropped 23"
+    ∷ row (take 22 b ++ (0x00 ∷ [])) (broken (take 22 b) ∷ stray 0x00 ∷ []) (numbers 0 1 23 0 0)
+    -- "F4 F3 F2 F1 01 00: resyncs 1, dropped 6"
+    ∷ row (0xF4 ∷ 0xF3 ∷ 0xF2 ∷ 0xF1 ∷ 0x01 ∷ 0x00 ∷ [])
+    (broken (0xF4 ∷ 0xF3 ∷ 0xF2 ∷ 0xF1 ∷ 0x01 ∷ []) ∷ stray 0x00 ∷ []) (numbers 0 1 6 0 0)
+    -- "F4 F3 F2 F1 37 F4: dropped 5, unfinished 1"
+    ∷ row (0xF4 ∷ 0xF3 ∷ 0xF2 ∷ 0xF1 ∷ 0x37 ∷ 0xF4 ∷ [])
+    (broken (0xF4 ∷ 0xF3 ∷ 0xF2 ∷ 0xF1 ∷ 0x37 ∷ []) ∷ unfinished (0xF4 ∷ []) ∷ []) (numbers 0 1 5 0 1)
+    -- "F4 F3 F2 F1 36 00: unfinished 6"
+    ∷ row (0xF4 ∷ 0xF3 ∷ 0xF2 ∷ 0xF1 ∷ 0x36 ∷ 0x00 ∷ [])
+    (unfinished (0xF4 ∷ 0xF3 ∷ 0xF2 ∷ 0xF1 ∷ 0x36 ∷ 0x00 ∷ []) ∷ []) (numbers 0 0 0 0 6)
+    -- "With 37 00: dropped 6"
+    ∷ row (0xF4 ∷ 0xF3 ∷ 0xF2 ∷ 0xF1 ∷ 0x37 ∷ 0x00 ∷ [])
+    (broken (0xF4 ∷ 0xF3 ∷ 0xF2 ∷ 0xF1 ∷ 0x37 ∷ []) ∷ stray 0x00 ∷ []) (numbers 0 1 6 0 0)
+    -- "FD FC FB FA 02 00 FF 00 04 03 02 01: malformed 1"
+    ∷ row bare (whole bare ∷ []) (numbers 0 0 0 1 0)
+    -- point 8: "For input 00, case B, F4 it prints `1 0 1 0 1`"
+    ∷ row (0x00 ∷ b ++ (0xF4 ∷ [])) (stray 0x00 ∷ whole b ∷ unfinished (0xF4 ∷ []) ∷ []) (numbers 1 0 1 0 1)
+    -- not the document's: each kind of piece in one stream; the byte that breaks a start begins the whole frame
+    ∷ row (0x00 ∷ 0xF4 ∷ b ++ (0xFD ∷ []))
+    (stray 0x00 ∷ broken (0xF4 ∷ []) ∷ whole b ∷ unfinished (0xFD ∷ []) ∷ []) (numbers 1 1 2 0 1)
+    ∷ []

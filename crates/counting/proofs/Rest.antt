@@ -1,0 +1,49 @@
+-- Bytes fed by slices in turn: what is left of them, fed one by one from here, leaves what all of them leave.
+--   Rest p q bs i   the parser q stands behind the first i of the bytes bs, which are fed to p
+use mathlib.Core.Path.{_≡_, refl, _∙_}
+use mathlib.Core.List.{List}
+use Prim.Native.Nat.{ℕ, _+_, _≤_, _<_}
+use native.Mathlib.Omega.{arith}
+use lib.ListN.{length, getD, take, drop, length-drop, drop-of-length-le}
+use lib.Seq.{drop-drop, getD-drop}
+use Rattle.framing.specs.Calls.{feeds}
+use Rattle.framing.proofs.Bytes.{bytes-at}
+use Rattle.parser.specs.Feed.{feedSliceOf}
+use Rattle.parser.specs.Claims.{left}
+use Rattle.parser.specs.declared.Parser.{Parser}
+use Rattle.parser.specs.declared.FedSlice.{FedSlice}
+use Rattle.counting.proofs.Slices.{slice-taken, slice-fed}
+use Rattle.counting.proofs.Appended.{left-split}
+
+pub record Rest (p q : Parser) (bs : List ℕ) (i : ℕ) : Type 0 where
+  pub inside : i ≤ length bs
+  pub same : left q (feeds (drop i bs)) ≡ left p (feeds bs)
+
+pub rest-start : (p : Parser) (bs : List ℕ) → Rest p p bs 0
+rest-start p bs = record { inside = omega arith; same = refl }
+
+module _ (p q : Parser) (bs : List ℕ) (i : ℕ) (h : Rest p q bs i) where
+  pub rest-end : length bs ≤ i → q ≡ left p (feeds bs)
+  rest-end l = rw (drop-of-length-le bs l) at (h .same)
+
+  -- A slice feed of what is left takes some of it, and goes on from there.
+  module _ (inner : i < length bs) (bytes : (j : ℕ) → getD bs j 0 < 256) (fed : FedSlice)
+      (e : fed ≡ feedSliceOf 54 q (drop i bs)) where
+    some : 0 < length (drop i bs)
+    some = omega (arith, length-drop i bs)
+
+    taken : (0 < fed .answer .count) × (fed .answer .count ≤ length (drop i bs))
+    taken = rw e (slice-taken 54 q (drop i bs) some)
+
+    fed-first : fed .parser ≡ left q (feeds (take (fed .answer .count) (drop i bs)))
+    fed-first = rw e (slice-fed 54 q (drop i bs) some (bytes-at (drop i bs) (λ j l. rw getD-drop (bytes (i + j)))))
+
+    pub rest-further : (0 < fed .answer .count) × Rest p (fed .parser) bs (i + fed .answer .count)
+    rest-further = (
+      taken .0,
+      record {
+        inside = omega (arith, taken .1, length-drop i bs);
+        same = rw (← drop-drop (fed .answer .count) i bs, fed-first) (left-split q (fed .answer .count) (drop i bs))
+            ∙ h .same;
+      },
+    )

@@ -1,0 +1,57 @@
+-- `counting::read_all` meets its contract. The loop's invariant is that some bytes leave the parser of a fresh one, and
+-- each turn feeds more. The measure is the number of turns that are left. Assumes nothing.
+use native.Mathlib.Omega.{arith}
+use Rattle.parser.specs.Feed.{fresh}
+use Rattle.counting.specs.Reached.{Reached}
+use Rattle.counting.proofs.Reading.{reached-start, reached-on}
+use Rattle.counting.proofs.read_all.Statement.{statement}
+use Rattle.counting.proofs.read_all.Tie as tie
+
+abbrev Inv-loop : tie.InvT-loop
+Inv-loop fd at₀ turns₀ at turns = Reached fresh at
+
+abbrev μ-loop : tie.MeasureT-loop
+μ-loop fd at₀ turns₀ at turns = turns
+
+-- Behind a turn: what it leaves is reached from a fresh parser, if what the loop held was.
+turned : (c : tie.After-read-some Inv-loop μ-loop) → Reached fresh (c .read-some .result .parser)
+turned c = reached-on _ _ _ (c .before .before .loop .inv) (c .read-some .ensures)
+
+new-requires : tie.Need-new-requires Inv-loop μ-loop
+new-requires c κs = tt
+
+loop-holds : tie.Need-loop-holds Inv-loop μ-loop
+loop-holds c = reached-start (c .new .ensures .0)
+
+read-some-requires : tie.Need-read-some-requires Inv-loop μ-loop
+read-some-requires c κs = tt
+
+returns : tie.Need-returns Inv-loop μ-loop
+returns c = turned (c .before .before .before)
+
+sub-turns : tie.Need-sub-turns Inv-loop μ-loop
+sub-turns c = omega arith
+
+loop-less : tie.Need-loop-less Inv-loop μ-loop
+loop-less c = omega arith
+
+loop-again : tie.Need-loop-again Inv-loop μ-loop
+loop-again c = turned (c .before .before .before)
+
+returns-2 : tie.Need-returns-2 Inv-loop μ-loop
+returns-2 c = c .before .loop .inv
+
+pub read-all-spec : {M : Type 1} → statement M
+read-all-spec =
+    tie.close
+    (tie.spec
+    Inv-loop
+    μ-loop
+    new-requires
+    loop-holds
+    read-some-requires
+    returns
+    sub-turns
+    loop-less
+    loop-again
+    returns-2)

@@ -1,0 +1,80 @@
+// Counting what a stream holds: bytes of any number fed to a parser, and its numbers printed on one line.
+use parser::Parser;
+ghost use mathlib.Core.Path.{_≡_};
+ghost use Rattle.framing.specs.Calls.{feeds};
+ghost use Rattle.parser.specs.Claims.{left};
+ghost use Rattle.parser.specs.Feed.{fresh};
+ghost use Rattle.counting.specs.Reached.{Reached};
+
+// Feeds all of `bytes`: a slice feed stops behind each whole frame, and is called again with the rest. The parser is
+// left as by feeding the bytes one by one, so that demand 3 (specs/Claims.antt of `parser`) says what it has counted.
+pub fn feed_all(parser: Parser, bytes: &[u8]) -> Parser
+    ensures fed { λ r. ⌜ r ≡ left parser (feeds (now (bytes .entry))) ⌝ }
+    ensures reached { λ r. ⌜ Reached parser r ⌝ }
+{
+    let mut at = parser;
+    let mut i = 0;
+    while i < bytes.len() {
+        let fed = at.fed_slice(&bytes[i..]);
+        let taken = fed.answer;
+        let next = fed.parser;
+        at = next;
+        i += taken.count;
+    }
+    at
+}
+
+// What a read leaves, and whether more may come.
+struct Turn {
+    parser: Parser,
+    more: bool,
+}
+
+// Reads once, and feeds what came. A read that fails counts as the end of the input. No contract can name the bytes
+// that are read: this one says that the parser is left as some bytes leave it.
+fn read_some(fd: i32, parser: Parser) -> Turn
+    ensures reached { λ r. ⌜ Reached parser (r .parser) ⌝ }
+{
+    let mut buf = io::buffer();
+    let got = libc::read(fd, &mut buf);
+    let n = io::count(got, &buf);
+    Turn {
+        parser: feed_all(parser, &buf[..n]),
+        more: n > 0,
+    }
+}
+
+// Feeds all that can be read from `fd` to a fresh parser. A proved loop has to end, and nothing says that an input does.
+// So the loop counts its turns down, from a number that no run uses up.
+pub fn read_all(fd: i32) -> Parser
+    ensures reached { λ r. ⌜ Reached fresh r ⌝ }
+{
+    let mut at = Parser::new();
+    let mut turns = u64::MAX;
+    while turns > 0 {
+        let turn = read_some(fd, at);
+        let next = turn.parser;
+        at = next;
+        if !turn.more {
+            return at;
+        }
+        turns -= 1;
+    }
+    at
+}
+
+// Prints the line `frames resyncs dropped malformed unfinished`: decimal, one space between, a line feed after.
+pub fn print_counts(fd: i32, parser: Parser) {
+    let stats = parser.stats();
+    print_number(fd, stats.frames as u64, b" ");
+    print_number(fd, stats.resyncs as u64, b" ");
+    print_number(fd, stats.dropped as u64, b" ");
+    print_number(fd, stats.malformed as u64, b" ");
+    print_number(fd, parser.unfinished() as u64, b"\n");
+}
+
+// Prints a number, and what stands behind it.
+fn print_number(fd: i32, n: u64, end: &[u8]) {
+    io::print_decimal(fd, n);
+    io::write_all(fd, end);
+}
