@@ -6,3 +6,23 @@ pub mod Slicing
 pub mod Engines
 -- Demand 3.
 pub mod Demand
+-- A parser in memory.
+pub mod Memory
+-- Its buffer, lent for a call.
+pub mod Field
+-- The parameter that a feed takes beside the parser.
+pub mod Extra
+-- What a feed answers.
+pub mod Answers
+-- The contracts of feeds and of resets.
+pub mod Contracts
+-- A feed of a parser that is lent.
+pub mod LentFeed
+-- A reset of a parser that is lent.
+pub mod LentReset
+-- A parser in a local, lent for a call.
+pub mod Local
+-- A feed by value that lends a local.
+pub mod LocalFeed
+-- A reset by value that lends a local.
+pub mod LocalReset

@@ -1,0 +1,18 @@
+-- `parser::feed_lent` meets its contract: LocalFeed.antt walks it, over what `Parser::feed` promises. Assumes nothing.
+use Rattle.stream.specs.Link.{linkMost}
+use Rattle.parser.specs.Feed.{feedOf}
+use Rattle.parser.proofs.Extra.{byte}
+use Rattle.parser.proofs.Answers.{frame-told, frame-handed}
+use Rattle.parser.proofs.LocalFeed.{local-feed}
+use Rattle.parser.proofs.Parser.feed.Symbol as g
+use Rattle.parser.proofs.Parser.feed.Met as g-thm
+use Rattle.parser.proofs.feed_lent.Key as key
+use Rattle.parser.proofs.feed_lent.Statement as stated
+use Rattle.parser.proofs.feed_lent.Code as code
+
+pub feed-lent-spec : {M : Type 1} → stated.statement M
+unfolding code.routine
+feed-lent-spec 𝓤 H 𝓜 𝓖 𝓡 =
+    local-feed byte frame-told frame-handed (feedOf linkMost)
+    𝓤 H 𝓜 𝓖 𝓡 code.env key.name g.name (code.unfolded 𝓤 H 𝓜 𝓡)
+    g.routine code.calls-parser·Parser·feed (g-thm.met 𝓤 H 𝓜 𝓖 𝓡)

@@ -1,0 +1,19 @@
+-- `parser::feed_slice_lent` meets its contract: LocalFeed.antt walks it, over what `Parser::feed_slice` promises.
+-- Assumes nothing.
+use Rattle.stream.specs.Link.{linkMost}
+use Rattle.parser.specs.Feed.{feedSliceOf}
+use Rattle.parser.proofs.Extra.{bytes}
+use Rattle.parser.proofs.Answers.{taken-told, taken-handed}
+use Rattle.parser.proofs.LocalFeed.{local-feed}
+use Rattle.parser.proofs.Parser.feed_slice.Symbol as g
+use Rattle.parser.proofs.Parser.feed_slice.Met as g-thm
+use Rattle.parser.proofs.feed_slice_lent.Key as key
+use Rattle.parser.proofs.feed_slice_lent.Statement as stated
+use Rattle.parser.proofs.feed_slice_lent.Code as code
+
+pub feed-slice-lent-spec : {M : Type 1} → stated.statement M
+unfolding code.routine
+feed-slice-lent-spec 𝓤 H 𝓜 𝓖 𝓡 =
+    local-feed bytes taken-told taken-handed (feedSliceOf linkMost)
+    𝓤 H 𝓜 𝓖 𝓡 code.env key.name g.name (code.unfolded 𝓤 H 𝓜 𝓡)
+    g.routine code.calls-parser·Parser·feed-slice (g-thm.met 𝓤 H 𝓜 𝓖 𝓡)
