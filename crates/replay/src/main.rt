@@ -7,6 +7,7 @@ mod line;
 mod ops;
 mod readers;
 mod replies;
+mod scripts;
 mod values;
 
 use line::Text;

@@ -2,9 +2,20 @@
 use crate::line;
 use crate::line::Text;
 use crate::readers;
+use crate::scripts;
+use parser::Parser;
 
-// Puts the answer to a case.
+// Puts the answer to a case: the lines of a script, or one line.
 pub fn answer(out: &mut Text, taken: usize, op: u8, argument: &[u8]) -> usize {
+    match op {
+        10 => scripts::run(out, taken, 10, Parser::new(), argument),
+        13 => scripts::built(out, taken, argument),
+        _ => one_line(out, taken, op, argument),
+    }
+}
+
+// Puts the answer of an op that has one line.
+fn one_line(out: &mut Text, taken: usize, op: u8, argument: &[u8]) -> usize {
     let n = line::decimal(out, taken, op as u64);
     let n = fields(out, n, op, argument);
     line::end(out, n)

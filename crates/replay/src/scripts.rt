@@ -1,0 +1,189 @@
+// Ops 10 and 13: a script of calls on one parser, handed on from call to call by value. Each call puts a line, and a
+// closing line follows.
+use crate::argument::u8_at;
+use crate::argument::u16_at;
+use crate::argument::u32_at;
+use crate::argument::usize_at;
+use crate::line;
+use crate::line::Text;
+use crate::values;
+use ack::Span;
+use frame::Frame;
+use parser::FedSlice;
+use parser::Parser;
+use parser::Taken;
+use scan::Scan;
+use scan::State;
+use scan::Stats;
+use wire::Kind;
+use wire::MAX_FRAME;
+use wire::copy_prefix;
+use wire::least;
+ghost use Prim.Native.Nat.{_≤_};
+ghost use lib.ListN.{length};
+
+// Where a parser's buffer begins in an argument of op 13.
+const BUFFER_AT: usize = 42;
+
+// Where the script begins there.
+const SCRIPT_AT: usize = BUFFER_AT + MAX_FRAME;
+
+// Op 13, on the fields of a parser and a script.
+pub fn built(out: &mut Text, taken: usize, argument: &[u8]) -> usize {
+    if argument.len() < SCRIPT_AT || u8_at(argument, 0) > 3 || u8_at(argument, 1) > 1 {
+        let n = line::decimal(out, taken, 13);
+        let n = line::none(out, n);
+        return line::end(out, n);
+    }
+    let mut buf: [u8; MAX_FRAME] = [0; MAX_FRAME];
+    copy_prefix(&mut buf, &argument[BUFFER_AT..SCRIPT_AT]);
+    let parser = Parser {
+        buf,
+        scan: scan(argument),
+        stats: stats(argument),
+    };
+    run(out, taken, 13, parser, &argument[SCRIPT_AT..])
+}
+
+// The scan in an argument of op 13.
+fn scan(argument: &[u8]) -> Scan {
+    Scan {
+        state: state(u8_at(argument, 0)),
+        kind: kind(u8_at(argument, 1)),
+        matched: usize_at(argument, 2),
+        len: usize_at(argument, 10),
+        pos: usize_at(argument, 18),
+    }
+}
+
+// The state of a number up to 3.
+fn state(number: u8) -> State {
+    match number {
+        0 => State::Header,
+        1 => State::Len,
+        2 => State::Data,
+        _ => State::Tail,
+    }
+}
+
+// The family of 0 or 1.
+fn kind(number: u8) -> Kind {
+    match number {
+        0 => Kind::Report,
+        _ => Kind::Command,
+    }
+}
+
+// The counters in an argument of op 13.
+fn stats(argument: &[u8]) -> Stats {
+    Stats {
+        frames: u32_at(argument, 26),
+        resyncs: u32_at(argument, 30),
+        dropped: u32_at(argument, 34),
+        malformed: u32_at(argument, 38),
+    }
+}
+
+// Makes the calls of a script, up to one that is cut short or has no meaning.
+pub fn run(out: &mut Text, taken: usize, op: u8, parser: Parser, script: &[u8]) -> usize {
+    let mut now = parser;
+    let mut n = taken;
+    let mut at = 0;
+    loop {
+        let size = call_size(&script[at..]);
+        if size == 0 {
+            return closing(out, n, op, now);
+        }
+        let end = at + size;
+        let fed = call(now, &script[at..end]);
+        let next = fed.parser;
+        let buf = next.buf;
+        let answer = fed.answer;
+        n = answered(out, n, op, answer, &buf);
+        now = next;
+        at = end;
+    }
+}
+
+// Bytes of the first call of a script; 0 where there is none, or not all of it.
+fn call_size(script: &[u8]) -> usize
+    ensures inside { λ r. ⌜ r ≤ length (now (script .entry)) ⌝ }
+{
+    if script.len() == 0 {
+        return 0;
+    }
+    let size = match u8_at(script, 0) {
+        0 => 2,
+        1 => 3 + u16_at(script, 1) as usize,
+        2 => 1,
+        _ => 0,
+    };
+    if script.len() < size {
+        return 0;
+    }
+    size
+}
+
+// Makes the call that these bytes are.
+fn call(parser: Parser, bytes: &[u8]) -> FedSlice {
+    match u8_at(bytes, 0) {
+        0 => fed(parser, u8_at(bytes, 1)),
+        1 => parser.fed_slice(&bytes[least(3, bytes.len())..]),
+        _ => FedSlice {
+            parser: parser.cleared(),
+            answer: Taken {
+                count: 0,
+                frame: Frame::none(),
+            },
+        },
+    }
+}
+
+// Feeds a byte.
+fn fed(parser: Parser, byte: u8) -> FedSlice {
+    let fed = parser.fed(byte);
+    let after = fed.parser;
+    let frame = fed.answer;
+    FedSlice {
+        parser: after,
+        answer: Taken { count: 1, frame },
+    }
+}
+
+// Puts the line of a call: its answer, then an acknowledgement's payload as it stands in the parser's buffer.
+fn answered(out: &mut Text, taken: usize, op: u8, answer: Taken, buf: &[u8; MAX_FRAME]) -> usize {
+    let frame = answer.frame;
+    let ack = frame.ack;
+    let span = ack.payload;
+    let n = line::decimal(out, taken, op as u64);
+    let n = line::number(out, n, answer.count as u64);
+    let n = values::frame(out, n, frame);
+    let n = payload(out, n, span, buf);
+    line::end(out, n)
+}
+
+// Puts the bytes of a payload, as far as they lie in the buffer.
+fn payload(out: &mut Text, taken: usize, span: Span, buf: &[u8; MAX_FRAME]) -> usize {
+    let all: &[u8] = buf;
+    let start = least(span.start, MAX_FRAME);
+    let end = start + least(span.len, MAX_FRAME - start);
+    line::bytes(out, taken, &all[start..end])
+}
+
+// Puts the closing line: the counters, and the length of the frame in progress.
+fn closing(out: &mut Text, taken: usize, op: u8, parser: Parser) -> usize {
+    let stats = parser.stats();
+    let n = line::decimal(out, taken, op as u64);
+    let n = line::numbers(
+        out,
+        n,
+        &[
+            stats.frames as u64,
+            stats.resyncs as u64,
+            stats.dropped as u64,
+            stats.malformed as u64,
+            parser.unfinished() as u64,
+        ],
+    );
+    line::end(out, n)
+}
