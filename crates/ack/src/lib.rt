@@ -16,6 +16,7 @@ use wire::gate_array;
 use wire::le16;
 use wire::le32;
 use wire::least;
+use wire::word;
 ghost use mathlib.Core.Path.{_≡_};
 ghost use mathlib.Core.Bool.{true};
 ghost use Rattle.wire.specs.Check.{Causes};
@@ -28,8 +29,6 @@ ghost use Rattle.ack.specs.Replies.{enableConfigReply, enableConfigAs, o
 ghost use Rattle.ack.specs.Replies.{firmwareReply, firmwareAs, outcomeOfFirmware};
 ghost use Rattle.ack.specs.Replies.{macReply, macAs, noMac};
 ghost use Rattle.ack.specs.Replies.{parametersReply, parametersAs, noParameters, fixedIn, gatesOf};
-
-pub mod word;
 
 // Parameters payload: the fixed head byte.
 const PARAMETERS_HEAD: u8 = 0xAA;

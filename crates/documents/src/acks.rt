@@ -11,9 +11,9 @@ use ack::AckResult;
 use ack::EnableConfigResult;
 use ack::FirmwareVersionResult;
 use ack::SpanResult;
-use ack::word;
 use frame::Frame;
 use wire::Error;
+use wire::word;
 
 // An acknowledgement's data, awaited for a word.
 pub fn in_data(label: &[u8], data: &[u8], awaited: u16) {

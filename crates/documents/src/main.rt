@@ -1,7 +1,7 @@
 // Holds the readers against the documents: it reads the bytes that document 01 and the maker's documents print, and
 // writes a line for each. The file stdout beside src/ has what the documents say of them, written by hand.
-use ack::word;
 use frame::FrameKind;
+use wire::word;
 
 mod acks;
 mod published;

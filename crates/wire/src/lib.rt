@@ -2,6 +2,8 @@
 // families, the numbers on the wire, the counters, and the copy of a prefix.
 //
 // Every function is total: what may be missing is a variant of its answer.
+pub mod word;
+
 ghost use mathlib.Core.Path.{_≡_};
 ghost use Prim.Native.Nat.{min};
 ghost use Rattle.wire.specs.Refusal.{numberOf, neededOf, refusalOf};

@@ -1,0 +1,26 @@
+-- `command::Command::encoded_len` meets its contract. Assumes nothing.
+use native.Mathlib.Omega.{arith}
+use Rattle.command.proofs.Makers.{value-short, frame-size}
+use borrow.Author.Needs.{needs}
+use Rattle.command.proofs.Command.encoded_len.Statement.{statement}
+use Rattle.command.proofs.Command.encoded_len.Tie as tie
+
+add-result : tie.Need-add-result
+add-result c = search needs
+
+value-requires : tie.Need-value-requires
+value-requires c κs = search needs
+
+len-requires : tie.Need-len-requires
+len-requires c κs = search needs
+
+add-result-2 : tie.Need-add-result-2
+add-result-2 c = omega (arith, c .len .ensures, value-short (c .before .value .result))
+
+returns : tie.Need-returns
+returns c =
+    let e = rw (c .before .value .ensures) at (c .len .ensures) in
+    omega (arith, e, frame-size (c .before .before .args .self))
+
+pub encoded-len-spec : {M : Type 1} → statement M
+encoded-len-spec = tie.close (tie.spec add-result value-requires len-requires add-result-2 returns)

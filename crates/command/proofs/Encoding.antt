@@ -1,0 +1,39 @@
+-- What the encoder answers and leaves: refused for its values, or as its frame's maker did.
+use mathlib.Core.Path.{_≡_}
+use mathlib.Core.List.{List}
+use mathlib.Core.Bool.{true, false}
+use mathlib.Core.Option.{none}
+use Prim.Native.Nat.{ℕ}
+use lib.ListN.{length}
+use native.Mathlib.Omega.{arith}
+use Rattle.wire.specs.declared.Error.the-variants.{Unsupported}
+use Rattle.cursor.specs.Written.{answerOf, bufferAfter, WriteCauses}
+use Rattle.cursor.specs.declared.WriteResult.{WriteResult}
+use Rattle.cursor.specs.declared.WriteResult.the-variants.{Err}
+use Rattle.cursor.proofs.Writers.{Wrote, wrote-refused, shown}
+use Rattle.command.specs.Command.{wordOf, valueOf, frameWith, commandFrame, encodable, unsupported}
+use Rattle.command.specs.Read.{ReadBack}
+use Rattle.command.specs.declared.Command.{Command}
+use Rattle.command.specs.declared.Value.{Value}
+use Rattle.command.proofs.Answers.{read-back}
+
+module _ (c : Command) (out : List ℕ) where
+  -- What the encoder has to show: its answer, its buffer, the causes, and that the frame reads back.
+  abbrev pub Encoded : WriteResult → List ℕ → Type 0
+  Encoded r left =
+      (r ≡ answerOf (unsupported c) (commandFrame c) (length out))
+      × ((left ≡ bufferAfter (unsupported c) (commandFrame c) out)
+      × (WriteCauses 2 (encodable c ≡ false) (commandFrame c) (length out) r × ReadBack c r left))
+
+  encoded : (left : List ℕ) {r : WriteResult} → Wrote (unsupported c) (commandFrame c) out r left
+      → Encoded r left
+  encoded left h =
+      let e = shown Unsupported (λ z. omega arith) (λ z. omega arith) (encodable c) (commandFrame c) out left h in
+      (e .0, (e .1 .0, (e .1 .1, read-back c out left _ h)))
+
+  pub encode-refused : encodable c ≡ false → Encoded (Err Unsupported) out
+  encode-refused e = encoded out (rw e (wrote-refused (commandFrame c) out Unsupported))
+
+  pub encode-made : (w : ℕ) (v : Value) (left : List ℕ) (r : WriteResult) → encodable c ≡ true → w ≡ wordOf c
+      → v ≡ valueOf c → Wrote none (frameWith w v) out r left → Encoded r left
+  encode-made w v left r e p q h = encoded left (rw (e, ← p, ← q) h)

@@ -1,0 +1,142 @@
+-- Reading a command frame: "the command that encodes to these bytes".
+--   Reads s c         the command c encodes to the bytes s
+--   ackBit w          the ACK bit of a word, 0100
+--   Asks s            s is a frame of the command family, and its data begin with a word whose ACK bit is clear
+--   commandOf s       what the reader answers for s, through the only command that may encode to s:
+--     middle s          what stands between the length and the tail
+--     isFrame s         whether s is the frame of the command family around its middle, of data that a length can say
+--     numberIn s i      the two-byte number in s at place i, 0 where the bytes are too few
+--     asks s            whether Asks s
+--     gateFor v, baudFor i   the gate with the value v, the rate with the index i; any where there is none
+--     guess w n a b c   the only command that may have the word w, and the number n for its value or a, b, c in its
+--                       records; any where none may
+--     guessIn s         the same by what stands in s at their places
+--     ifEncodesTo s c   c, if it encodes to s
+--   numberOfRead r    the number of an answer's refusal, 0 where nothing is refused
+--   ReadCauses s r    each number is given by the answer r exactly in its cause, a command exactly if it encodes to s
+--   ReadBack c r l    where the encoder of c answered r and left l: reading what was written gives c
+--   WrittenAgain s r  where the reader answered r for s: writing again gives s
+use mathlib.Core.Path.{_≡_}
+use mathlib.Core.Logic.{_↔_, _⊎_}
+use mathlib.Core.List.{List, [], _∷_}
+use mathlib.Core.Bool.{Bool, true, false, cond, _&&_}
+use Prim.Native.Nat.{ℕ, _-_, _/_, _%_, _≤_}
+use lib.Dec.{eqb, leb}
+use lib.ListN.{length, take, drop}
+use Rattle.wire.specs.Equal.{sameBytes}
+use Rattle.wire.specs.Number.{little, le16At}
+use Rattle.wire.specs.Family.{framed}
+use Rattle.wire.specs.Refusal.{numberOf}
+use Rattle.wire.specs.declared.Error.the-variants.{InvalidFormat, UnknownCommand}
+use Rattle.wire.specs.declared.Kind.the-variants as Family
+use Rattle.wire.specs.declared.MaybeU16.{MaybeU16}
+use Rattle.wire.specs.declared.MaybeU16.the-variants as U16
+use Rattle.cursor.specs.Written.{framable, written, answerOf, bufferAfter}
+use Rattle.cursor.specs.declared.WriteResult.{WriteResult}
+use Rattle.cursor.specs.declared.WriteResult.the-variants as Write
+use Rattle.command.specs.Setting.{baudOf}
+use Rattle.command.specs.Command.{commandFrame, encodable, unsupported}
+use Rattle.command.specs.declared.Gate.{Gate}
+use Rattle.command.specs.declared.Gate.the-variants.{Index, All}
+use Rattle.command.specs.declared.Baud.{Baud}
+use Rattle.command.specs.declared.Baud.the-variants.{B9600}
+use Rattle.command.specs.declared.MaybeBaud.{MaybeBaud}
+use Rattle.command.specs.declared.MaybeBaud.the-variants as Rate
+use Rattle.command.specs.declared.Command.{Command}
+use Rattle.command.specs.declared.Command.the-variants.{EnableConfig, EndConfig, SetMaxGates, ReadParameters}
+use Rattle.command.specs.declared.Command.the-variants.{EngineeringMode, SetSensitivity, ReadFirmware, SetBaud}
+use Rattle.command.specs.declared.Command.the-variants.{FactoryReset, Restart, Bluetooth, ReadMac}
+use Rattle.command.specs.declared.CommandResult.{CommandResult}
+use Rattle.command.specs.declared.CommandResult.the-variants.{Ok, Err}
+
+abbrev pub Reads : List ℕ → Command → Type 0
+Reads s c = (encodable c ≡ true) × (s ≡ commandFrame c)
+
+abbrev pub ackBit : ℕ → ℕ
+ackBit w = w / 256 % 2
+
+pub record Asks (s : List ℕ) : Type 0 where
+  pub «data» : List ℕ
+  pub whole : s ≡ framed Family.Command «data»
+  pub sayable : length «data» ≤ 65535
+  pub worded : 2 ≤ length «data»
+  pub asking : ackBit (little (take 2 «data»)) ≡ 0
+
+abbrev pub middle : List ℕ → List ℕ
+middle s = take (length s - 10) (drop 6 s)
+
+unfoldable pub isFrame : List ℕ → Bool
+isFrame s = sameBytes s (framed Family.Command (middle s)) && framable (middle s)
+
+abbrev pub orZero : MaybeU16 → ℕ
+orZero (U16.Some v) = v
+orZero U16.None = 0
+
+unfoldable pub numberIn : List ℕ → ℕ → ℕ
+numberIn s i = orZero (le16At s i)
+
+unfoldable pub asks : List ℕ → Bool
+asks s = isFrame s && (leb 12 (length s) && eqb (ackBit (numberIn s 6)) 0)
+
+unfoldable pub gateFor : ℕ → Gate
+gateFor v = cond (eqb v 0xFFFF) All (Index (v % 256))
+
+abbrev pub orAny : MaybeBaud → Baud
+orAny (Rate.Some b) = b
+orAny Rate.None = B9600
+
+unfoldable pub baudFor : ℕ → Baud
+baudFor i = orAny (baudOf i)
+
+-- the command beside the word w in a list, or another
+abbrev pub lookup : ℕ → List (ℕ × Command) → Command → Command
+lookup w [] other = other
+lookup w (x ∷ l) other = cond (eqb w (x .0)) (x .1) (lookup w l other)
+
+unfoldable pub guess : ℕ → ℕ → ℕ → ℕ → ℕ → Command
+guess w n a b c = lookup w (
+    (0x00FF, EnableConfig)
+    ∷ (0x0060, SetMaxGates (a % 256) (b % 256) c)
+    ∷ (0x0061, ReadParameters)
+    ∷ (0x0062, EngineeringMode true)
+    ∷ (0x0063, EngineeringMode false)
+    ∷ (0x0064, SetSensitivity (gateFor a) (b % 256) (c % 256))
+    ∷ (0x00A0, ReadFirmware)
+    ∷ (0x00A1, SetBaud (baudFor n))
+    ∷ (0x00A2, FactoryReset)
+    ∷ (0x00A3, Restart)
+    ∷ (0x00A4, Bluetooth (eqb n 1))
+    ∷ (0x00A5, ReadMac)
+    ∷ []
+    ) EndConfig
+
+unfoldable pub guessIn : List ℕ → Command
+guessIn s = guess (numberIn s 6) (numberIn s 8) (numberIn s 10) (numberIn s 16) (numberIn s 22)
+
+unfoldable pub ifEncodesTo : List ℕ → Command → CommandResult
+ifEncodesTo s c = cond (encodable c && sameBytes (commandFrame c) s) (Ok c) (Err UnknownCommand)
+
+unfoldable pub commandOf : List ℕ → CommandResult
+commandOf s = cond (asks s) (ifEncodesTo s (guessIn s)) (Err InvalidFormat)
+
+abbrev pub numberOfRead : CommandResult → ℕ
+numberOfRead (Ok c) = 0
+numberOfRead (Err e) = numberOf e
+
+pub record ReadCauses (s : List ℕ) (r : CommandResult) : Type 0 where
+  -- the command is given exactly if it encodes to s
+  pub accepted : (c : Command) → (r ≡ Ok c) ↔ Reads s c
+  pub unique : (b c : Command) → Reads s b → Reads s c → b ≡ c
+  -- 1 is given exactly to what is no such frame, 5 exactly to such a frame to which no command encodes
+  pub invalid : (numberOfRead r ≡ 1) ↔ (Asks s → ⊥)
+  pub unknown : (numberOfRead r ≡ 5) ↔ Asks s × ((c : Command) → Reads s c → ⊥)
+  -- and nothing else is given
+  pub total : (numberOfRead r ≡ 0) ⊎ ((numberOfRead r ≡ 1) ⊎ (numberOfRead r ≡ 5))
+
+abbrev pub ReadBack : Command → WriteResult → List ℕ → Type 0
+ReadBack c r left = (n : ℕ) → r ≡ Write.Ok n → commandOf (take n left) ≡ Ok c
+
+abbrev pub WrittenAgain : List ℕ → CommandResult → Type 0
+WrittenAgain s r = (c : Command) → r ≡ Ok c → (out : List ℕ) → length s ≤ length out
+    → (answerOf (unsupported c) (commandFrame c) (length out) ≡ Write.Ok (length s))
+    × (bufferAfter (unsupported c) (commandFrame c) out ≡ written out s)

@@ -1,0 +1,137 @@
+// Reading a command frame: its framing, and the one command that may encode to it.
+use super::Baud;
+use super::Command;
+use super::Gate;
+use super::MaybeBaud;
+use cursor::MAX_LENGTH;
+use cursor::u16_bytes;
+use wire::ACK_BIT;
+use wire::FRAMING;
+use wire::Kind;
+use wire::MaybeU16;
+use wire::le16;
+use wire::same;
+use wire::word;
+ghost use mathlib.Core.Path.{_≡_};
+ghost use Rattle.command.specs.Read.{isFrame, asks, numberIn, gateFor, baudFor, guess, guessIn};
+
+// Where the word begins in a frame, where a two-byte value does, and where the values of the three records do.
+const WORD: usize = 6;
+
+const NUMBER: usize = 8;
+
+const FIRST: usize = 10;
+
+const SECOND: usize = 16;
+
+const THIRD: usize = 22;
+
+// Whether the bytes are exactly one frame of the command family, with data that a length can say.
+fn is_frame(bytes: &[u8]) -> bool
+    ensures tested { λ r. ⌜ r ≡ isFrame (now (bytes .entry)) ⌝ }
+{
+    if bytes.len() < FRAMING {
+        return false;
+    }
+    let n = bytes.len() - FRAMING;
+    if MAX_LENGTH < n {
+        return false;
+    }
+    let header = Kind::COMMAND_HEADER;
+    if !same(&bytes[..4], &header) {
+        return false;
+    }
+    let length = u16_bytes(n as u16);
+    if !same(&bytes[4..6], &length) {
+        return false;
+    }
+    let tail = Kind::COMMAND_TAIL;
+    let end = 6 + n;
+    same(&bytes[end..], &tail)
+}
+
+// The two-byte number at `at`, or 0 where the bytes are too few.
+fn number_in(bytes: &[u8], at: usize) -> u16
+    ensures read { λ r. ⌜ r ≡ numberIn (now (bytes .entry)) at ⌝ }
+{
+    let MaybeU16::Some(v) = le16(bytes, at) else {
+        return 0;
+    };
+    v
+}
+
+// Whether the bytes are a frame that asks something of the module: a word is there, and its ACK bit is clear.
+pub fn asks(bytes: &[u8]) -> bool
+    ensures tested { λ r. ⌜ r ≡ asks (now (bytes .entry)) ⌝ }
+{
+    if !is_frame(bytes) {
+        return false;
+    }
+    if bytes.len() < FRAMING + 2 {
+        return false;
+    }
+    number_in(bytes, WORD) / ACK_BIT % 2 == 0
+}
+
+// The gate with the value, of which only the lowest byte counts where it is not the value for all.
+fn gate_for(value: u16) -> Gate
+    ensures found { λ r. ⌜ r ≡ gateFor value ⌝ }
+{
+    if value == 0xFFFF {
+        Gate::All
+    } else {
+        Gate::Index((value % 256) as u8)
+    }
+}
+
+// The rate for the index, or any where the module knows none.
+fn baud_for(index: u16) -> Baud
+    ensures found { λ r. ⌜ r ≡ baudFor index ⌝ }
+{
+    let MaybeBaud::Some(baud) = Baud::from_index(index) else {
+        return Baud::B9600;
+    };
+    baud
+}
+
+// The only command that may have this word, and this number for its value or these values in its records. For a word
+// that no command has, any will do: it does not encode to the bytes.
+fn guess(word: u16, number: u16, first: u16, second: u16, third: u16) -> Command
+    ensures guessed { λ r. ⌜ r ≡ guess word number first second third ⌝ }
+{
+    match word {
+        word::ENABLE_CONFIG => Command::EnableConfig,
+        word::SET_MAX_GATES => Command::SetMaxGates {
+            moving: (first % 256) as u8,
+            stationary: (second % 256) as u8,
+            no_one_secs: third,
+        },
+        word::READ_PARAMETERS => Command::ReadParameters,
+        word::ENGINEERING_ON => Command::EngineeringMode(true),
+        word::ENGINEERING_OFF => Command::EngineeringMode(false),
+        word::SET_SENSITIVITY => Command::SetSensitivity {
+            gate: gate_for(first),
+            moving: (second % 256) as u8,
+            stationary: (third % 256) as u8,
+        },
+        word::READ_FIRMWARE => Command::ReadFirmware,
+        word::SET_BAUD => Command::SetBaud(baud_for(number)),
+        word::FACTORY_RESET => Command::FactoryReset,
+        word::RESTART => Command::Restart,
+        word::BLUETOOTH => Command::Bluetooth(number == 1),
+        word::READ_MAC => Command::ReadMac,
+        _ => Command::EndConfig,
+    }
+}
+
+// The only command that may encode to the bytes, if one does. Only the word and the lowest bytes of each value are
+// looked at.
+pub fn guess_in(bytes: &[u8]) -> Command
+    ensures guessed { λ r. ⌜ r ≡ guessIn (now (bytes .entry)) ⌝ }
+{
+    let number = number_in(bytes, NUMBER);
+    let first = number_in(bytes, FIRST);
+    let second = number_in(bytes, SECOND);
+    let third = number_in(bytes, THIRD);
+    guess(number_in(bytes, WORD), number, first, second, third)
+}

@@ -1,0 +1,13 @@
+-- Laws about the definitions, which the proofs of this crate and of the crates above cite.
+-- A put where the bytes fit, and where they do not.
+pub mod Puts
+-- Puts one behind the other.
+pub mod Chain
+-- What a writer answers and leaves.
+pub mod Writers
+-- A frame put into a buffer.
+pub mod Frames
+-- The bytes of a number, and the number of bytes.
+pub mod Bytes
+-- A frame taken apart.
+pub mod Framing
