@@ -8,3 +8,5 @@ pub mod Steps
 pub mod Delivered
 -- Which bytes begin a frame, and what framing a whole frame's data gives.
 pub mod Begins
+-- Where a broken start ends.
+pub mod Traps

@@ -69,10 +69,10 @@ nothing-sound [] h = refl
 nothing-sound (b ∷ r) h = absurd h
 
 -- A length in range, as a test and as a fact.
-range-sound : (most n : ℕ) → T (inRange most n) → InRange most n
+pub range-sound : (most n : ℕ) → T (inRange most n) → InRange most n
 range-sound most n h = (leb→le 2 n (both-left (leb 2 n) (leb n most) h), leb→le n most (both-right (leb 2 n) (leb n most) h))
 
-range-complete : (most n : ℕ) → InRange most n → T (inRange most n)
+pub range-complete : (most n : ℕ) → InRange most n → T (inRange most n)
 range-complete most n h = both (leb 2 n) (leb n most) (le→leb 2 n (h .0)) (le→leb n most (h .1))
 
 -- What may be cut short in the tail is a prefix of it.

@@ -4,14 +4,18 @@ use mathlib.Core.Logic.{_≢_, _↔_}
 use mathlib.Core.List.{List, [], _∷_, _++_}
 use Prim.Native.Nat.{ℕ, _<_}
 use lib.Dec.{T}
-use lib.ListN.{length}
+use lib.ListN.{length, getD, take}
 use Rattle.wire.specs.Check.{firstFailed}
-use Rattle.wire.specs.Family.{framed}
+use Rattle.wire.specs.Number.{little}
+use Rattle.wire.specs.Family.{header, tail, framed}
 use Rattle.wire.specs.declared.Kind.{Kind}
 use Rattle.frame.specs.Frame.{bodyChecks, decoded}
 use Rattle.framing.specs.Bytes.{Bytes}
+use Rattle.framing.specs.Framing.{Piece, broken}
+use Rattle.framing.specs.Division.{Division}
 use Rattle.stream.specs.Open.{InRange, Open, Whole}
 use Rattle.stream.specs.Scan.{opens, wholes}
+use Rattle.stream.specs.Link.{link}
 use Rattle.stream.specs.Deliver.{Answer, holds, decodes, payloadOf, delivered}
 
 -- A string passes the test of open strings exactly if it is open.
@@ -30,6 +34,23 @@ WholeFramed = (most : ℕ) (s : List ℕ) → Bytes s → Whole most s
 -- A byte begins no frame exactly if it is "neither F4 nor FD".
 unfoldable pub StrayTested : Type 0
 StrayTested = (most b : ℕ) → (T (opens most (b ∷ [])) → ⊥) ↔ (b ≢ 0xF4) × (b ≢ 0xFD)
+
+-- Document 01's first trap: "The second byte of a bad length is dropped with the header. It must be tried as a new start."
+-- The header and the first length byte are a broken start; the second is the first byte of what is divided next.
+unfoldable pub BadLength : Type 0
+BadLength = (most : ℕ) (k : Kind) (lo hi : ℕ) (t : List ℕ) (ps : List Piece)
+    → (InRange most (little (lo ∷ hi ∷ [])) → ⊥)
+    → Division (link most) (hi ∷ t) ps
+    → Division (link most) ((header k ++ (lo ∷ [])) ++ (hi ∷ t)) (broken (header k ++ (lo ∷ [])) ∷ ps)
+
+-- Its second: "After a broken tail the whole span is searched again. Only the offending byte is." All that came before the
+-- offending byte c is a broken start, whatever the data hold.
+unfoldable pub BrokenTail : Type 0
+BrokenTail = (most : ℕ) (k : Kind) (lo hi : ℕ) (d : List ℕ) (m c : ℕ) (t : List ℕ) (ps : List Piece)
+    → InRange most (little (lo ∷ hi ∷ [])) → length d ≡ little (lo ∷ hi ∷ []) → m < 4 → c ≢ getD (tail k) m 0
+    → Division (link most) (c ∷ t) ps
+    → Division (link most) ((header k ++ (lo ∷ hi ∷ (d ++ take m (tail k)))) ++ (c ∷ t))
+    (broken (header k ++ (lo ∷ hi ∷ (d ++ take m (tail k)))) ∷ ps)
 
 -- "A whole frame decodes if its data pass R1 to R8 (report) or A1 and A2 (command)."
 unfoldable pub DecodesBody : Type 0

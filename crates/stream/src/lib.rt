@@ -2,6 +2,7 @@
 // the counters count. It is definitions and laws, and has no code. Each function here is empty: its contract pins claims of
 // specs/Claims.antt.
 ghost use Rattle.stream.specs.Claims.{OpenTested, WholeTested, WholeFramed, StrayTested};
+ghost use Rattle.stream.specs.Claims.{BadLength, BrokenTail};
 ghost use Rattle.stream.specs.Claims.{DecodesBody, DeliversBody};
 
 // The tests of the framing are document 01's words.
@@ -10,6 +11,12 @@ pub fn framing_claims()
     ensures whole { λ _. ⌜ WholeTested ⌝ }
     ensures framed { λ _. ⌜ WholeFramed ⌝ }
     ensures stray { λ _. ⌜ StrayTested ⌝ }
+{}
+
+// Where a broken start ends: document 01's traps of the stream.
+pub fn trap_claims()
+    ensures bad_length { λ _. ⌜ BadLength ⌝ }
+    ensures broken_tail { λ _. ⌜ BrokenTail ⌝ }
 {}
 
 // A whole frame decodes, and delivers, as its data do.
