@@ -1,10 +1,12 @@
--- The rows hold. What a row should say is computed from its bytes or its calls, once for each table, and compared with
--- what it says; that the scanner's pieces are a division is a law of the crate `framing`.
+-- The rows hold. What a row should say is computed from its bytes, its calls or its command, once for each table, and
+-- compared with what it says; that the scanner's pieces are a division is a law of the crate `framing`.
 use mathlib.Core.Path.{_≡_, refl, subst, ap}
 use mathlib.Core.List.{List, map}
+use lib.ListN.{length}
 use Rattle.wire.specs.Counter.{bumped}
 use Rattle.wire.specs.Equal.{sameBytes}
-use Rattle.wire.specs.Family.{headerOf}
+use Rattle.wire.specs.Family.{headerOf, framed}
+use Rattle.wire.specs.Number.{le16At}
 use Rattle.report.specs.State.{stateOf}
 use Rattle.report.specs.Report.{reportOf}
 use Rattle.ack.specs.Ack.{ackOf}
@@ -23,9 +25,14 @@ use Rattle.scan.specs.Step.{abandoned, startOf, stepOf, stored}
 use Rattle.scan.specs.Slice.{runOf}
 use Rattle.parser.specs.Feed.{fresh, bufOf, movedOf, sliceBufOf, sliceMovedOf, feedOf, feedSliceOf, unfinishedOf}
 use Rattle.parser.specs.Claims.{did, left}
+use Rattle.cursor.specs.Written.{answerOf, bufferAfter, written}
+use Rattle.command.specs.Command.{commandFrame, dataWith, unsupported}
+use Rattle.command.specs.Read.{commandOf, asks, isFrame, numberIn, guess, guessIn, ifEncodesTo}
 use Rattle.cases.specs.Row.{Numbers, addedUp, countedBy, Stream, StreamHolds, Run, RunHolds}
+use Rattle.cases.specs.Row.{CommandRow, encodes, parses, CommandHolds}
 use Rattle.cases.specs.Streams.{streams}
 use Rattle.cases.specs.Runs.{runs}
+use Rattle.cases.specs.Commands.{commands}
 use Rattle.cases.proofs.Agree.{agree, every-map}
 
 -- A stream's pieces and numbers, as computed and as the row says.
@@ -81,3 +88,24 @@ run-holds r e = record { done = ap (λ (x : Ran). x .history) e; counted = ap (�
 
 pub runs-hold : Every RunHolds runs
 runs-hold = every-map run-holds runs (agree ran told runs runs-computed)
+
+-- A command's row with its answer and its buffer as computed, and as it stands.
+abbrev done : CommandRow → CommandRow
+done (encodes c before answer after) = encodes c before (answerOf (unsupported c) (commandFrame c) (length before))
+    (bufferAfter (unsupported c) (commandFrame c) before)
+done (parses s answer) = parses s (commandOf s)
+
+abbrev stated : CommandRow → CommandRow
+stated r = r
+
+commands-computed : map done commands ≡ map stated commands
+unfolding framed dataWith answerOf bufferAfter written commandOf asks isFrame sameBytes numberIn le16At guess guessIn
+    ifEncodesTo
+commands-computed = refl
+
+command-holds : (r : CommandRow) → done r ≡ stated r → CommandHolds r
+command-holds (encodes c before answer after) e = (cc, cc)
+command-holds (parses s answer) e = cc
+
+pub commands-hold : Every CommandHolds commands
+commands-hold = every-map command-holds commands (agree done stated commands commands-computed)

@@ -6,5 +6,7 @@ pub mod Row
 pub mod Streams
 -- Runs of calls that deliver, or stop counting.
 pub mod Runs
+-- Document 01's commands, written and read.
+pub mod Commands
 -- The theorem.
 pub mod Claims

@@ -6,9 +6,12 @@
 --   StreamHolds   the row is so by the definition of a division, and by the parser
 --   Run           calls on a parser, what they do, and the numbers that they leave
 --   RunHolds      the row is so by the parser
+--   CommandRow    a command written, its answer and the buffer before and after; or bytes read, and the answer
+--   CommandHolds  the row is so by what the contracts of `Command::encode` and `Command::parse` cite
 use mathlib.Core.Path.{_≡_}
 use mathlib.Core.List.{List}
 use Prim.Native.Nat.{ℕ}
+use lib.ListN.{length}
 use Rattle.framing.specs.Framing.{Piece}
 use Rattle.framing.specs.Division.{Division}
 use Rattle.framing.specs.Tally.{sum, waiting, total}
@@ -19,6 +22,12 @@ use Rattle.stream.specs.Decoding.{counting}
 use Rattle.parser.specs.Feed.{fresh, unfinishedOf}
 use Rattle.parser.specs.Claims.{did, left}
 use Rattle.parser.specs.declared.Parser.{Parser}
+use Rattle.cursor.specs.Written.{answerOf, bufferAfter}
+use Rattle.cursor.specs.declared.WriteResult.{WriteResult}
+use Rattle.command.specs.Command.{commandFrame, unsupported}
+use Rattle.command.specs.Read.{commandOf}
+use Rattle.command.specs.declared.Command.{Command}
+use Rattle.command.specs.declared.CommandResult.{CommandResult}
 
 pub record Numbers : Type 0 where
   pub frames : ℕ
@@ -69,3 +78,13 @@ pub record RunHolds (r : Run) : Type 0 where
   pub done : did (r .start) (r .calls) ≡ r .history
   -- the parser that they leave tells the numbers
   pub counted : countedBy (left (r .start) (r .calls)) ≡ r .numbers
+
+pub data CommandRow : Type 0 where
+  encodes : (c : Command) (before : List ℕ) (answer : WriteResult) (after : List ℕ) → CommandRow
+  parses : (s : List ℕ) (answer : CommandResult) → CommandRow
+
+-- By the encoder's promises `told` and `left`, and the reader's `read`.
+abbrev pub CommandHolds : CommandRow → Type 0
+CommandHolds (encodes c before answer after) = (answerOf (unsupported c) (commandFrame c) (length before) ≡ answer)
+    × (bufferAfter (unsupported c) (commandFrame c) before ≡ after)
+CommandHolds (parses s answer) = commandOf s ≡ answer
