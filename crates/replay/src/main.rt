@@ -2,6 +2,7 @@
 // line of numbers. docs/REPLAY.md has the form of both.
 mod argument;
 mod cases;
+mod commands;
 mod input;
 mod line;
 mod ops;

@@ -1,4 +1,5 @@
 // The table of the ops.
+use crate::commands;
 use crate::line;
 use crate::line::Text;
 use crate::readers;
@@ -8,7 +9,8 @@ use parser::Parser;
 // Puts the answer to a case: the lines of a script, or one line.
 pub fn answer(out: &mut Text, taken: usize, op: u8, argument: &[u8]) -> usize {
     match op {
-        10 => scripts::run(out, taken, 10, Parser::new(), argument),
+        10 => scripts::run(out, taken, 10, false, Parser::new(), argument),
+        11 => scripts::run(out, taken, 11, true, Parser::new(), argument),
         13 => scripts::built(out, taken, argument),
         _ => one_line(out, taken, op, argument),
     }
@@ -29,6 +31,9 @@ fn fields(out: &mut Text, taken: usize, op: u8, argument: &[u8]) -> usize {
         3 => readers::ack(out, taken, argument),
         4 => readers::replies(out, taken, argument),
         5 => readers::frame(out, taken, argument),
+        6 => commands::encode(out, taken, argument),
+        9 => commands::read(out, taken, argument),
+        12 => commands::baud(out, taken, argument),
         14 => readers::replies_of_built(out, taken, argument),
         _ => line::none(out, taken),
     }

@@ -1,5 +1,5 @@
-// Ops 10 and 13: a script of calls on one parser, handed on from call to call by value. Each call puts a line, and a
-// closing line follows.
+// Ops 10, 11 and 13: a script of calls on one parser, handed on from call to call by value, or in op 11 lent to each.
+// Each call puts a line, and a closing line follows.
 use crate::argument::u8_at;
 use crate::argument::u16_at;
 use crate::argument::u32_at;
@@ -12,6 +12,9 @@ use frame::Frame;
 use parser::FedSlice;
 use parser::Parser;
 use parser::Taken;
+use parser::feed_lent;
+use parser::feed_slice_lent;
+use parser::reset_lent;
 use scan::Scan;
 use scan::State;
 use scan::Stats;
@@ -42,7 +45,7 @@ pub fn built(out: &mut Text, taken: usize, argument: &[u8]) -> usize {
         scan: scan(argument),
         stats: stats(argument),
     };
-    run(out, taken, 13, parser, &argument[SCRIPT_AT..])
+    run(out, taken, 13, false, parser, &argument[SCRIPT_AT..])
 }
 
 // The scan in an argument of op 13.
@@ -84,8 +87,15 @@ fn stats(argument: &[u8]) -> Stats {
     }
 }
 
-// Makes the calls of a script, up to one that is cut short or has no meaning.
-pub fn run(out: &mut Text, taken: usize, op: u8, parser: Parser, script: &[u8]) -> usize {
+// Makes the calls of a script, by value or on a parser that is lent, up to one that is cut short or has no meaning.
+pub fn run(
+    out: &mut Text,
+    taken: usize,
+    op: u8,
+    lent: bool,
+    parser: Parser,
+    script: &[u8],
+) -> usize {
     let mut now = parser;
     let mut n = taken;
     let mut at = 0;
@@ -95,7 +105,7 @@ pub fn run(out: &mut Text, taken: usize, op: u8, parser: Parser, script: &[u8]) 
             return closing(out, n, op, now);
         }
         let end = at + size;
-        let fed = call(now, &script[at..end]);
+        let fed = call(lent, now, &script[at..end]);
         let next = fed.parser;
         let buf = next.buf;
         let answer = fed.answer;
@@ -125,12 +135,12 @@ fn call_size(script: &[u8]) -> usize
 }
 
 // Makes the call that these bytes are.
-fn call(parser: Parser, bytes: &[u8]) -> FedSlice {
+fn call(lent: bool, parser: Parser, bytes: &[u8]) -> FedSlice {
     match u8_at(bytes, 0) {
-        0 => fed(parser, u8_at(bytes, 1)),
-        1 => parser.fed_slice(&bytes[least(3, bytes.len())..]),
+        0 => fed(lent, parser, u8_at(bytes, 1)),
+        1 => fed_slice(lent, parser, &bytes[least(3, bytes.len())..]),
         _ => FedSlice {
-            parser: parser.cleared(),
+            parser: cleared(lent, parser),
             answer: Taken {
                 count: 0,
                 frame: Frame::none(),
@@ -140,13 +150,35 @@ fn call(parser: Parser, bytes: &[u8]) -> FedSlice {
 }
 
 // Feeds a byte.
-fn fed(parser: Parser, byte: u8) -> FedSlice {
-    let fed = parser.fed(byte);
+fn fed(lent: bool, parser: Parser, byte: u8) -> FedSlice {
+    let fed = if lent {
+        feed_lent(parser, byte)
+    } else {
+        parser.fed(byte)
+    };
     let after = fed.parser;
     let frame = fed.answer;
     FedSlice {
         parser: after,
         answer: Taken { count: 1, frame },
+    }
+}
+
+// Feeds a slice.
+fn fed_slice(lent: bool, parser: Parser, bytes: &[u8]) -> FedSlice {
+    if lent {
+        feed_slice_lent(parser, bytes)
+    } else {
+        parser.fed_slice(bytes)
+    }
+}
+
+// Resets.
+fn cleared(lent: bool, parser: Parser) -> Parser {
+    if lent {
+        reset_lent(parser)
+    } else {
+        parser.cleared()
     }
 }
 
