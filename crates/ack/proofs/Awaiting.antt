@@ -3,17 +3,17 @@ use mathlib.Core.Path.{_≡_, refl, sym, _∙_}
 use mathlib.Core.Logic.{_≢_, inl, inr, ⊎-elim}
 use mathlib.Core.List.{List}
 use mathlib.Core.Bool.{Bool, true, false, true≢false}
-use Prim.Native.Nat.{ℕ, _≤_, _<_}
+use Prim.Native.Nat.{ℕ}
 use native.Mathlib.Omega.{arith}
 use lib.Dec.{eqb}
-use lib.ListN.{length}
-use borrow.Author.Tests.{eqb-true, eqb-false, eq-eqb, ne-eqb, le-leb, lt-leb}
-use Rattle.wire.specs.declared.Error.{Error}
-use Rattle.wire.specs.declared.Error.the-variants.{InvalidFormat, Hardware}
-use Rattle.wire.specs.declared.Outcome.{Outcome}
-use Rattle.wire.specs.declared.Outcome.the-variants.{Ok, Err}
-use Rattle.ack.specs.Reply.{payloadIn, judged, awaited, AwaitedCauses, spanAs, outcomeOfSpan, expected}
-use Rattle.ack.specs.Reply.{Reply, sized, readAs, replied, ReplyCauses}
+use borrow.Author.Tests.{eqb-true, eqb-false, eq-eqb, ne-eqb}
+use Rattle.refusal.specs.declared.Error.{Error}
+use Rattle.refusal.specs.declared.Error.the-variants.{InvalidFormat, Hardware}
+use Rattle.refusal.specs.declared.Outcome.{Outcome}
+use Rattle.refusal.specs.declared.Outcome.the-variants.{Ok, Err}
+use Rattle.ack.specs.Awaited.{payloadIn, awaited, AwaitedCauses, spanAs, outcomeOfSpan, expected}
+use Rattle.reply.specs.Reply.{Reply, judged, readAs}
+use Rattle.ack.specs.Awaited.{replied, ReplyCauses}
 use Rattle.ack.specs.declared.Ack.{Ack}
 use Rattle.ack.specs.declared.Span.{Span}
 use Rattle.ack.specs.declared.SpanResult.{SpanResult}
@@ -94,24 +94,6 @@ module _ (a : Ack) (w : ℕ) where
       → (r ≡ expected a w) × AwaitedCauses a w true (outcomeOfSpan r)
   unfolding expected
   expected-whole e = (sym e, rw (← e, span-outcome (awaited a w true)) (awaited-causes true))
-
--- A payload read as a reply: it is readable, or it is refused.
-module _ {A B : Type 0} (answer : Outcome → A → B) (r : Reply A) (p : List ℕ) where
-  pub read-fits : r .fits p ≡ true → readAs answer r p ≡ answer Ok (r .value p)
-  unfolding readAs
-  read-fits e = rw e
-
-  pub read-refused : r .fits p ≡ false → readAs answer r p ≡ answer (Err InvalidFormat) (r .value p)
-  unfolding readAs
-  read-refused e = rw e
-
--- The same of a reply in n bytes.
-module _ {A B : Type 0} (answer : Outcome → A → B) (w n : ℕ) (value : List ℕ → A) (p : List ℕ) where
-  pub sized-long : n ≤ length p → readAs answer (sized w n value) p ≡ answer Ok (value p)
-  sized-long h = read-fits answer (sized w n value) p (le-leb n (length p) h)
-
-  pub sized-short : length p < n → readAs answer (sized w n value) p ≡ answer (Err InvalidFormat) (value p)
-  sized-short h = read-refused answer (sized w n value) p (lt-leb n (length p) h)
 
 -- The answer to an acknowledgement, where `outcome` is an answer's outcome.
 module _ {A B : Type 0} (answer : Outcome → A → B) (outcome : B → Outcome)

@@ -5,7 +5,3 @@ pub mod Reading
 pub mod Spans
 -- Awaiting an acknowledgement and reading its reply, whichever it is.
 pub mod Awaiting
--- A parameters payload: how it begins, and what it is read as.
-pub mod Sensitivities
--- The outcome of an answer is the one that it was made of.
-pub mod Answers

@@ -5,12 +5,12 @@ use Prim.Native.Nat.{ℕ, _/_, _%_, _≤_, _<_}
 use native.Mathlib.Omega.{arith}
 use lib.ListN.{length}
 use borrow.Author.Tests.{le-leb, lt-leb, eq-eqb, ne-eqb}
-use Rattle.wire.specs.Check.{firstFailed, outcomeOf, Causes}
-use Rattle.wire.specs.declared.Check.{Check}
-use Rattle.wire.specs.declared.Check.the-variants.{A1, A2}
-use Rattle.wire.specs.declared.MaybeCheck.{MaybeCheck}
-use Rattle.wire.specs.declared.MaybeCheck.the-variants as Maybe
-use Rattle.wire.proofs.Checks.{causes}
+use Rattle.refusal.specs.Check.{firstFailed, outcomeOf, Causes}
+use Rattle.refusal.specs.declared.Check.{Check}
+use Rattle.refusal.specs.declared.Check.the-variants.{A1, A2}
+use Rattle.refusal.specs.declared.MaybeCheck.{MaybeCheck}
+use Rattle.refusal.specs.declared.MaybeCheck.the-variants as Maybe
+use Rattle.refusal.proofs.Checks.{causes}
 use Rattle.ack.specs.Ack.{wordIn, ackChecks, ackOf, checkedAs, checkedAck, parsedAs, parsedAck, outcomeOfAck}
 use Rattle.ack.specs.declared.Ack.{Ack}
 use Rattle.ack.specs.declared.CheckedAck.{CheckedAck}

@@ -4,7 +4,7 @@ use mathlib.Core.List.{List, []}
 use Prim.Native.Nat.{ℕ, _+_, _≤_, _<_}
 use lib.ListN.{length, take, drop}
 use borrow.Author.Tests.{le-leb, lt-leb}
-use Rattle.ack.specs.Reply.{payloadIn}
+use Rattle.ack.specs.Awaited.{payloadIn}
 use Rattle.ack.specs.declared.Span.{Span}
 
 module _ (s : List ℕ) (p : Span) where

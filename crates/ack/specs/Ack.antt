@@ -13,12 +13,12 @@ use Prim.Native.Nat.{ℕ, _-_, _/_, _%_}
 use lib.Dec.{leb, eqb}
 use lib.ListN.{length, take, drop}
 use Rattle.wire.specs.Number.{little}
-use Rattle.wire.specs.Check.{Checks, firstFailed, errorOf}
-use Rattle.wire.specs.declared.Check.the-variants.{A1, A2}
-use Rattle.wire.specs.declared.MaybeCheck.{MaybeCheck}
-use Rattle.wire.specs.declared.MaybeCheck.the-variants as Maybe
-use Rattle.wire.specs.declared.Outcome.{Outcome}
-use Rattle.wire.specs.declared.Outcome.the-variants as Outcome
+use Rattle.refusal.specs.Check.{Checks, firstFailed, errorOf}
+use Rattle.refusal.specs.declared.Check.the-variants.{A1, A2}
+use Rattle.refusal.specs.declared.MaybeCheck.{MaybeCheck}
+use Rattle.refusal.specs.declared.MaybeCheck.the-variants as Maybe
+use Rattle.refusal.specs.declared.Outcome.{Outcome}
+use Rattle.refusal.specs.declared.Outcome.the-variants as Outcome
 use Rattle.ack.specs.declared.Ack.{Ack}
 use Rattle.ack.specs.declared.CheckedAck.{CheckedAck}
 use Rattle.ack.specs.declared.CheckedAck.the-variants as Checked

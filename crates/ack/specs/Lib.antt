@@ -1,3 +1,2 @@
 pub mod Ack
-pub mod Reply
-pub mod Replies
+pub mod Awaited

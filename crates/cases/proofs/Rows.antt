@@ -7,7 +7,7 @@ use Rattle.wire.specs.Counter.{bumped}
 use Rattle.wire.specs.Equal.{sameBytes}
 use Rattle.wire.specs.Family.{headerOf, framed}
 use Rattle.wire.specs.Number.{le16At}
-use Rattle.report.specs.State.{stateOf}
+use Rattle.target_state.specs.State.{stateOf}
 use Rattle.report.specs.Report.{reportOf}
 use Rattle.ack.specs.Ack.{ackOf}
 use Rattle.frame.specs.Frame.{decoded, checkedFrame}
@@ -21,8 +21,9 @@ use Rattle.stream.specs.Scan.{reads, opens, wholes}
 use Rattle.stream.specs.Link.{link}
 use Rattle.stream.specs.Deliver.{Answer, decodes}
 use Rattle.scan.specs.Scan.{inOrder, settled, unfinishedBy}
-use Rattle.scan.specs.Step.{abandoned, startOf, stepOf, stored}
-use Rattle.scan.specs.Slice.{runOf}
+use Rattle.scan.specs.Start.{abandoned, startOf}
+use Rattle.step.specs.Step.{stepOf, stored}
+use Rattle.step.specs.Slice.{runOf}
 use Rattle.parser.specs.Feed.{fresh, bufOf, movedOf, sliceBufOf, sliceMovedOf, feedOf, feedSliceOf, unfinishedOf}
 use Rattle.parser.specs.Claims.{did, left}
 use Rattle.cursor.specs.Written.{answerOf, bufferAfter, written}

@@ -9,9 +9,9 @@ use mathlib.Core.List.{List, [], _∷_, _++_}
 use mathlib.Core.Bool.{true, false}
 use Prim.Native.Nat.{ℕ}
 use lib.ListN.{replicate}
-use Rattle.report.specs.Block.{noEngineering}
+use Rattle.engineering.specs.Block.{noEngineering}
 use Rattle.report.specs.Report.{noReport}
-use Rattle.report.specs.declared.TargetState.the-variants.{Both}
+use Rattle.target_state.specs.declared.TargetState.the-variants.{Both}
 use Rattle.frame.specs.Frame.{noAck}
 use Rattle.frame.specs.declared.FrameKind.the-variants as Is
 use Rattle.frame.specs.declared.Frame.{Frame}

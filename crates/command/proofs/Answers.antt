@@ -6,7 +6,7 @@ use mathlib.Core.Bool.{true, false}
 use Prim.Native.Nat.{ℕ}
 use native.Mathlib.Omega.{arith}
 use lib.ListN.{length, take}
-use Rattle.wire.specs.declared.Error.the-variants.{InvalidFormat, UnknownCommand}
+use Rattle.refusal.specs.declared.Error.the-variants.{InvalidFormat, UnknownCommand}
 use Rattle.cursor.specs.Written.{written}
 use Rattle.cursor.specs.declared.WriteResult.{WriteResult}
 use Rattle.cursor.proofs.Writers.{Wrote, wrote-whole}

@@ -6,7 +6,7 @@ use mathlib.Core.Option.{none}
 use Prim.Native.Nat.{ℕ}
 use lib.ListN.{length}
 use native.Mathlib.Omega.{arith}
-use Rattle.wire.specs.declared.Error.the-variants.{Unsupported}
+use Rattle.refusal.specs.declared.Error.the-variants.{Unsupported}
 use Rattle.cursor.specs.Written.{answerOf, bufferAfter, WriteCauses}
 use Rattle.cursor.specs.declared.WriteResult.{WriteResult}
 use Rattle.cursor.specs.declared.WriteResult.the-variants.{Err}

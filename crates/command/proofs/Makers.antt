@@ -11,7 +11,7 @@ use Rattle.wire.specs.Number.{leBytes}
 use Rattle.wire.specs.Family.{framed}
 use Rattle.wire.specs.Prefix.{over}
 use Rattle.wire.specs.declared.Kind.the-variants as Family
-use Rattle.wire.specs.declared.Error.the-variants.{Unrepresentable}
+use Rattle.refusal.specs.declared.Error.the-variants.{Unrepresentable}
 use Rattle.cursor.specs.Put.{putIn}
 use Rattle.cursor.specs.Written.{framable}
 use Rattle.cursor.specs.declared.WriteResult.{WriteResult}

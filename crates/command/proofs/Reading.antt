@@ -7,8 +7,8 @@ use Prim.Native.Nat.{ℕ, _≤_}
 use native.Mathlib.Omega.{arith}
 use lib.ListN.{length, take}
 use Rattle.wire.specs.Equal.{sameBytes}
-use Rattle.wire.specs.declared.Error.{Error}
-use Rattle.wire.specs.declared.Error.the-variants.{Unsupported, UnknownCommand, InvalidFormat}
+use Rattle.refusal.specs.declared.Error.{Error}
+use Rattle.refusal.specs.declared.Error.the-variants.{Unsupported, UnknownCommand, InvalidFormat}
 use Rattle.cursor.specs.Written.{unless, written}
 use Rattle.cursor.specs.declared.WriteResult.{WriteResult}
 use Rattle.cursor.specs.declared.WriteResult.the-variants as Write

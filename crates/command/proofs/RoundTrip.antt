@@ -8,7 +8,7 @@ use lib.ListN.{length, take}
 use borrow.Author.Tests.{leb-true}
 use Rattle.wire.specs.Equal.{sameBytes}
 use Rattle.wire.specs.Number.{little}
-use Rattle.wire.specs.declared.Error.the-variants.{InvalidFormat, UnknownCommand}
+use Rattle.refusal.specs.declared.Error.the-variants.{InvalidFormat, UnknownCommand}
 use Rattle.wire.proofs.Equality.{same-sound, same-complete}
 use Rattle.command.specs.Command.{wordOf, valueOf, dataWith, commandFrame, encodable}
 use Rattle.command.specs.Read.{Reads, Asks, ackBit, asks, guessIn, ifEncodesTo, commandOf}

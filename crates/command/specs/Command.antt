@@ -15,8 +15,8 @@ use lib.Dec.{leb}
 use Rattle.wire.specs.Number.{leBytes}
 use Rattle.wire.specs.Family.{framed}
 use Rattle.wire.specs.declared.Kind.the-variants as Family
-use Rattle.wire.specs.declared.Error.{Error}
-use Rattle.wire.specs.declared.Error.the-variants.{Unsupported}
+use Rattle.refusal.specs.declared.Error.{Error}
+use Rattle.refusal.specs.declared.Error.the-variants.{Unsupported}
 use Rattle.cursor.specs.Written.{unless}
 use Rattle.command.specs.Setting.{gateValue, gateKnown, farthest, sensitivity, indexOf}
 use Rattle.command.specs.declared.Value.{Value}

@@ -26,8 +26,8 @@ use lib.ListN.{length, take, drop}
 use Rattle.wire.specs.Equal.{sameBytes}
 use Rattle.wire.specs.Number.{little, le16At}
 use Rattle.wire.specs.Family.{framed}
-use Rattle.wire.specs.Refusal.{numberOf}
-use Rattle.wire.specs.declared.Error.the-variants.{InvalidFormat, UnknownCommand}
+use Rattle.refusal.specs.Refusal.{numberOf}
+use Rattle.refusal.specs.declared.Error.the-variants.{InvalidFormat, UnknownCommand}
 use Rattle.wire.specs.declared.Kind.the-variants as Family
 use Rattle.wire.specs.declared.MaybeU16.{MaybeU16}
 use Rattle.wire.specs.declared.MaybeU16.the-variants as U16

@@ -4,7 +4,7 @@
 // knows no other frame.
 use cursor::WriteResult;
 use maker::put_value;
-use wire::Error;
+use refusal::Error;
 use wire::FRAMING;
 use wire::same;
 use wire::word;

@@ -12,8 +12,8 @@ use Rattle.framing.specs.Bytes.{Bytes}
 use Rattle.framing.specs.Calls.{feeds}
 use Rattle.framing.specs.Engine.{final}
 use Rattle.scan.specs.Scan.{inOrder, settled}
-use Rattle.scan.specs.Step.{stepOf, stored}
-use Rattle.scan.specs.Slice.{Run, runAt, thenRun, runOf}
+use Rattle.step.specs.Step.{stepOf, stored}
+use Rattle.step.specs.Slice.{Run, runAt, thenRun, runOf}
 use Rattle.parser.specs.Feed.{emitted, put, bufOf, movedOf, feedOf, sliceBufOf, sliceMovedOf, feedSliceOf}
 use Rattle.parser.specs.Engine.{engine}
 use Rattle.scan.specs.declared.Scan.{Scan}
@@ -22,7 +22,7 @@ use Rattle.parser.specs.declared.Parser.{Parser}
 use Rattle.scan.specs.declared.Ended.{Ended}
 use Rattle.scan.specs.declared.Ended.the-variants.{Frame, Nothing}
 use Rattle.scan.specs.declared.Stepped.{Stepped}
-use Rattle.scan.proofs.Orders.{step-order}
+use Rattle.step.proofs.Onwards.{step-order}
 use Rattle.scan.proofs.Orders.{settled-order, settled-same}
 
 abbrev leaves : Run → Parser

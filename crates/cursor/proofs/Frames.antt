@@ -9,7 +9,7 @@ use Rattle.wire.specs.Number.{leBytes}
 use Rattle.wire.specs.Family.{header, tail, framed}
 use Rattle.wire.specs.declared.Kind.{Kind}
 use Rattle.wire.specs.declared.Kind.the-variants.{Report, Command}
-use Rattle.wire.specs.declared.Error.the-variants.{Unrepresentable, BufferTooSmall}
+use Rattle.refusal.specs.declared.Error.the-variants.{Unrepresentable, BufferTooSmall}
 use Rattle.wire.proofs.Families.{header-length, tail-length}
 use Rattle.cursor.specs.Put.{putIn}
 use Rattle.cursor.specs.Written.{written, framable, frameRefusal}

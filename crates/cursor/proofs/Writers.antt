@@ -8,9 +8,9 @@ use native.Mathlib.Omega.{arith}
 use lib.Dec.{leb}
 use lib.ListN.{length}
 use borrow.Author.Tests.{le-leb, lt-leb, leb-true, leb-false}
-use Rattle.wire.specs.Refusal.{numberOf}
-use Rattle.wire.specs.declared.Error.{Error}
-use Rattle.wire.specs.declared.Error.the-variants.{BufferTooSmall}
+use Rattle.refusal.specs.Refusal.{numberOf}
+use Rattle.refusal.specs.declared.Error.{Error}
+use Rattle.refusal.specs.declared.Error.the-variants.{BufferTooSmall}
 use Rattle.cursor.specs.Written.{written, unless, answered, changed, answerOf, bufferAfter, WriteCauses}
 use Rattle.cursor.specs.declared.WriteResult.{WriteResult}
 use Rattle.cursor.specs.declared.WriteResult.the-variants.{Ok, Err}

@@ -16,9 +16,9 @@ use mathlib.Core.Option.{Option, none, some}
 use Prim.Native.Nat.{ℕ, _≤_, _<_}
 use lib.Dec.{leb}
 use lib.ListN.{length, drop}
-use Rattle.wire.specs.Refusal.{numberOf}
-use Rattle.wire.specs.declared.Error.{Error}
-use Rattle.wire.specs.declared.Error.the-variants.{BufferTooSmall, Unrepresentable}
+use Rattle.refusal.specs.Refusal.{numberOf}
+use Rattle.refusal.specs.declared.Error.{Error}
+use Rattle.refusal.specs.declared.Error.the-variants.{BufferTooSmall, Unrepresentable}
 use Rattle.cursor.specs.declared.WriteResult.{WriteResult}
 use Rattle.cursor.specs.declared.WriteResult.the-variants.{Ok, Err}
 

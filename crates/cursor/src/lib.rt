@@ -1,7 +1,7 @@
 // Bounded writes into the caller's buffer: bytes, numbers and whole frames, each put as a whole or not at all.
 //
 // Every function is total: a place past the end, or too little room, is a variant of its answer, and changes no byte.
-use wire::Error;
+use refusal::Error;
 use wire::FRAMING;
 use wire::Kind;
 ghost use mathlib.Core.Path.{_≡_};

@@ -8,11 +8,11 @@ use crate::text::numbers;
 use crate::text::text;
 use ack::Ack;
 use ack::AckResult;
-use ack::EnableConfigResult;
-use ack::FirmwareVersionResult;
 use ack::SpanResult;
 use frame::Frame;
-use wire::Error;
+use refusal::Error;
+use reply::EnableConfigResult;
+use reply::FirmwareVersionResult;
 use wire::word;
 
 // An acknowledgement's data, awaited for a word.

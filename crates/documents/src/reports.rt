@@ -4,8 +4,8 @@ use crate::text::end;
 use crate::text::gates;
 use crate::text::numbers;
 use crate::text::text;
+use engineering::Engineering;
 use frame::Frame;
-use report::Engineering;
 use report::Report;
 use wire::MAX_EXTRA;
 

@@ -9,12 +9,12 @@ use borrow.Author.Tests.{le-leb, lt-leb}
 use Rattle.wire.specs.Equal.{sameBytes}
 use Rattle.wire.specs.Family.{header, tail, headerOf}
 use Rattle.wire.proofs.Families.{header-sound, header-length}
-use Rattle.wire.specs.Check.{Checks, orFailed, firstFailed, outcomeOf, Causes}
-use Rattle.wire.proofs.Checks.{causes}
+use Rattle.refusal.specs.Check.{Checks, orFailed, firstFailed, outcomeOf, Causes}
+use Rattle.refusal.proofs.Checks.{causes}
 use Rattle.wire.specs.declared.Kind.{Kind}
-use Rattle.wire.specs.declared.Check.the-variants.{F1, F2, F3, F4}
-use Rattle.wire.specs.declared.MaybeCheck.{MaybeCheck}
-use Rattle.wire.specs.declared.MaybeCheck.the-variants as Maybe
+use Rattle.refusal.specs.declared.Check.the-variants.{F1, F2, F3, F4}
+use Rattle.refusal.specs.declared.MaybeCheck.{MaybeCheck}
+use Rattle.refusal.specs.declared.MaybeCheck.the-variants as Maybe
 use Rattle.wire.specs.declared.MaybeKind.{MaybeKind}
 use Rattle.wire.specs.declared.MaybeKind.the-variants as Found
 use Rattle.frame.specs.Frame.{family, announced, dataOf, bodyChecks, onData, checksFor, frameOf, failingFrame, frameIf}

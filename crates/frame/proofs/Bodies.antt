@@ -2,10 +2,10 @@
 use mathlib.Core.Path.{_≡_, refl, sym, ap, _∙_}
 use mathlib.Core.List.{List}
 use Prim.Native.Nat.{ℕ}
-use Rattle.wire.specs.Check.{firstFailed}
-use Rattle.wire.specs.declared.Check.{Check}
-use Rattle.wire.specs.declared.MaybeCheck.{MaybeCheck}
-use Rattle.wire.specs.declared.MaybeCheck.the-variants as Maybe
+use Rattle.refusal.specs.Check.{firstFailed}
+use Rattle.refusal.specs.declared.Check.{Check}
+use Rattle.refusal.specs.declared.MaybeCheck.{MaybeCheck}
+use Rattle.refusal.specs.declared.MaybeCheck.the-variants as Maybe
 use Rattle.wire.specs.declared.Kind.the-variants.{Report, Command}
 use Rattle.report.specs.Check.{reportChecks, checkedAs, checkedReport}
 use Rattle.report.specs.Report.{reportOf, noReport}

@@ -19,15 +19,15 @@ use lib.ListN.{length, take, drop}
 use Rattle.wire.specs.Equal.{sameBytes}
 use Rattle.wire.specs.Number.{little}
 use Rattle.wire.specs.Family.{header, tail, headerOf}
-use Rattle.wire.specs.Check.{Checks, firstFailed, outcomeOf}
+use Rattle.refusal.specs.Check.{Checks, firstFailed, outcomeOf}
 use Rattle.wire.specs.declared.Kind.{Kind}
 use Rattle.wire.specs.declared.Kind.the-variants as Family
 use Rattle.wire.specs.declared.MaybeKind.{MaybeKind}
 use Rattle.wire.specs.declared.MaybeKind.the-variants as Found
-use Rattle.wire.specs.declared.Check.{Check}
-use Rattle.wire.specs.declared.Check.the-variants.{F1, F2, F3, F4}
-use Rattle.wire.specs.declared.MaybeCheck.{MaybeCheck}
-use Rattle.wire.specs.declared.MaybeCheck.the-variants as Maybe
+use Rattle.refusal.specs.declared.Check.{Check}
+use Rattle.refusal.specs.declared.Check.the-variants.{F1, F2, F3, F4}
+use Rattle.refusal.specs.declared.MaybeCheck.{MaybeCheck}
+use Rattle.refusal.specs.declared.MaybeCheck.the-variants as Maybe
 use Rattle.report.specs.Check.{reportChecks}
 use Rattle.report.specs.Report.{reportOf, noReport}
 use Rattle.ack.specs.Ack.{ackChecks, ackOf}

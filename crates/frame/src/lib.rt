@@ -5,19 +5,19 @@
 use ack::Ack;
 use ack::CheckedAck;
 use ack::Span;
+use refusal::Check;
+use refusal::MaybeCheck;
+use refusal::Outcome;
 use report::Report;
 use report::no_report;
-use wire::Check;
 use wire::FRAMING;
 use wire::Kind;
-use wire::MaybeCheck;
 use wire::MaybeKind;
 use wire::MaybeU16;
-use wire::Outcome;
 use wire::le16;
 use wire::same;
 ghost use mathlib.Core.Path.{_≡_};
-ghost use Rattle.wire.specs.Check.{Causes};
+ghost use Rattle.refusal.specs.Check.{Causes};
 ghost use Rattle.wire.specs.declared.Kind.the-variants as Family;
 ghost use Rattle.frame.specs.Frame.{noAck, noFrame, decoded, checksFor, checkedFrame, parsedFrame, failingFrame};
 

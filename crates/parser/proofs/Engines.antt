@@ -14,15 +14,15 @@ use Rattle.stream.specs.Link.{link}
 use Rattle.stream.specs.Deliver.{Answer, Counter, frames, resyncs, dropped, malformed}
 use Rattle.stream.specs.Decoding.{decoding, counting}
 use Rattle.scan.specs.Scan.{hunting, inOrder, settled, pendingOf, unfinishedBy}
-use Rattle.scan.specs.Step.{stepOf, stored}
-use Rattle.scan.specs.Slice.{runOf}
+use Rattle.step.specs.Step.{stepOf, stored}
+use Rattle.step.specs.Slice.{runOf}
 use Rattle.parser.specs.Feed.{bufOf, movedOf, put, feedOf, sliceBufOf, sliceMovedOf, feedSliceOf, resetOf}
 use Rattle.parser.specs.Feed.{unfinishedOf}
 use Rattle.parser.specs.Engine.{counterIn, pendingBy, engine}
 use Rattle.scan.specs.declared.Scan.{Scan}
 use Rattle.parser.specs.declared.Parser.{Parser}
-use Rattle.scan.proofs.Follow.{Capped}
-use Rattle.scan.proofs.Waiting.{waits, pending-length}
+use Rattle.step.proofs.Follow.{Capped}
+use Rattle.step.proofs.Waiting.{waits, pending-length}
 use Rattle.scan.proofs.Orders.{settled-order, settled-same}
 use Rattle.parser.proofs.Feeding.{Valid, one-follows, one-scan, one-answer, one-counter, one-valid}
 use Rattle.parser.proofs.Slicing.{sliceAs, until}

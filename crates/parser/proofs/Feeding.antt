@@ -10,11 +10,11 @@ use lib.Seq.{length-take-le}
 use Rattle.wire.specs.Number.{leBytes}
 use Rattle.wire.specs.Counter.{counterMost, bumped}
 use Rattle.wire.proofs.Counters.{bumped-nil, bumped-most}
-use Rattle.wire.specs.Check.{firstFailed}
+use Rattle.refusal.specs.Check.{firstFailed}
 use Rattle.wire.specs.Family.{header, tail, framed}
 use Rattle.wire.specs.declared.Kind.{Kind}
-use Rattle.wire.specs.declared.MaybeCheck.{MaybeCheck}
-use Rattle.wire.specs.declared.MaybeCheck.the-variants as Maybe
+use Rattle.refusal.specs.declared.MaybeCheck.{MaybeCheck}
+use Rattle.refusal.specs.declared.MaybeCheck.the-variants as Maybe
 use Rattle.frame.specs.Frame.{bodyChecks, decoded}
 use Rattle.framing.specs.Framing.{Framing}
 use Rattle.framing.specs.Tally.{sum, one-if, passed, resynced, lost, total}
@@ -26,7 +26,8 @@ use Rattle.stream.specs.Deliver.{Answer, holds, decodes, delivered, payloadOf, 
 use Rattle.stream.specs.Decoding.{decoding, counting}
 use Rattle.stream.proofs.Delivered.{decodes-framed, delivered-framed, decoded-failed}
 use Rattle.scan.specs.Scan.{hunting, inOrder, orHunting, settled, pendingOf}
-use Rattle.scan.specs.Step.{stepOf, storedIn, stored, counted}
+use Rattle.step.specs.Step.{stepOf, storedIn, stored}
+use Rattle.scan.specs.Start.{counted}
 use Rattle.parser.specs.Feed.{emitted, bufOf, movedOf, put, feedOf}
 use Rattle.parser.specs.Engine.{answerOf, counterIn, pendingBy, engine}
 use Rattle.scan.specs.declared.State.{State}
@@ -38,8 +39,8 @@ use Rattle.scan.specs.declared.Stepped.{Stepped}
 use Rattle.parser.specs.declared.Moved.{Moved}
 use Rattle.scan.specs.declared.Ended.{Ended}
 use Rattle.scan.specs.declared.Ended.the-variants.{Frame, Nothing}
-use Rattle.scan.proofs.Follow.{Capped, endedAs, Fits, Follows}
-use Rattle.scan.proofs.Steps.{follows}
+use Rattle.step.proofs.Follow.{Capped, endedAs, Fits, Follows}
+use Rattle.step.proofs.Steps.{follows}
 
 -- What a parser's type says of it: the buffer has room for the largest length, and no counter is past its most.
 pub record Valid (most : ℕ) (p : Parser) : Type 0 where

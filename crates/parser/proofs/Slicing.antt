@@ -13,8 +13,8 @@ use Rattle.stream.specs.Link.{link}
 use Rattle.stream.specs.Deliver.{Answer}
 use Rattle.stream.specs.Decoding.{decoding}
 use Rattle.scan.specs.Scan.{inOrder, settled, pendingOf}
-use Rattle.scan.specs.Step.{stepOf, stored}
-use Rattle.scan.specs.Slice.{Run, runAt, thenRun, runOf}
+use Rattle.step.specs.Step.{stepOf, stored}
+use Rattle.step.specs.Slice.{Run, runAt, thenRun, runOf}
 use Rattle.parser.specs.Feed.{emitted, bufOf, movedOf, put, feedOf}
 use Rattle.parser.specs.Engine.{answerOf, engine}
 use Rattle.scan.specs.declared.Scan.{Scan}
@@ -24,7 +24,7 @@ use Rattle.parser.specs.declared.Fed.{Fed}
 use Rattle.parser.specs.declared.Moved.{Moved}
 use Rattle.scan.specs.declared.Ended.{Ended}
 use Rattle.scan.specs.declared.Ended.the-variants.{Frame, Nothing}
-use Rattle.scan.proofs.Follow.{Capped, endedAs}
+use Rattle.step.proofs.Follow.{Capped, endedAs}
 use Rattle.scan.proofs.Orders.{settled-same}
 use Rattle.parser.proofs.Feeding.{Valid, one-follows, one-room, one-capped, one-valid}
 

@@ -13,8 +13,9 @@ use lib.ListN.{take, replicate}
 use Rattle.frame.specs.Frame.{noFrame, decoded}
 use Rattle.frame.specs.declared.Frame.{Frame}
 use Rattle.scan.specs.Scan.{hunting, settled, unfinishedBy}
-use Rattle.scan.specs.Step.{stepOf, stored, counted}
-use Rattle.scan.specs.Slice.{Run, runOf}
+use Rattle.step.specs.Step.{stepOf, stored}
+use Rattle.scan.specs.Start.{counted}
+use Rattle.step.specs.Slice.{Run, runOf}
 use Rattle.scan.specs.declared.Scan.{Scan}
 use Rattle.scan.specs.declared.Stats.{Stats}
 use Rattle.parser.specs.declared.Parser.{Parser}

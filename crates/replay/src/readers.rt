@@ -15,7 +15,7 @@ use ack::AckResult;
 use ack::Span;
 use frame::Frame;
 use report::Report;
-use report::TargetState;
+use target_state::TargetState;
 
 // Bytes of an argument of op 14 before those that the payload stands in.
 const BUILT_ACK_LEN: usize = 23;

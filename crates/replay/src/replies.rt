@@ -3,11 +3,11 @@ use crate::line::Text;
 use crate::line::bytes;
 use crate::line::numbers;
 use ack::Ack;
-use ack::EnableConfigResult;
-use ack::FirmwareVersionResult;
-use ack::MacResult;
-use ack::ParametersResult;
 use ack::SpanResult;
+use reply::EnableConfigResult;
+use reply::FirmwareVersionResult;
+use reply::MacResult;
+use reply::ParametersResult;
 
 // `expect` of the awaited word, then the replies, on an acknowledgement and the bytes that its payload stands in.
 pub fn all(out: &mut Text, taken: usize, ack: Ack, awaited: u16, data: &[u8]) -> usize {

@@ -4,12 +4,12 @@ use crate::line::bytes;
 use crate::line::number;
 use crate::line::numbers;
 use ack::Ack;
+use engineering::Engineering;
 use frame::Frame;
 use frame::FrameKind;
-use report::Engineering;
 use report::MaybeTarget;
 use report::Report;
-use report::TargetState;
+use target_state::TargetState;
 use wire::MaybeU8;
 
 // A target state: its byte, then what it says.

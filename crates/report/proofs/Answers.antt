@@ -6,13 +6,13 @@ use Prim.Native.Nat.{ℕ, _-_, _≤_, _<_}
 use native.Mathlib.Omega.{arith}
 use lib.ListN.{length, getD, take, drop}
 use borrow.Author.Tests.{le-leb, lt-leb, eq-eqb, ne-eqb}
-use Rattle.wire.specs.Check.{Passes, FailsFirst, firstFailed, Causes}
-use Rattle.wire.proofs.Checks.{passes-complete, fails-complete, causes}
-use Rattle.wire.specs.declared.Check.{Check}
-use Rattle.wire.specs.declared.Check.the-variants.{R1, R2, R3, R4, R5, R6, R7, R8}
-use Rattle.wire.specs.declared.MaybeCheck.{MaybeCheck}
-use Rattle.wire.specs.declared.MaybeCheck.the-variants.{Some, None}
-use Rattle.report.specs.Block.{fits, engineeringOf, noEngineering}
+use Rattle.refusal.specs.Check.{Passes, FailsFirst, firstFailed, Causes}
+use Rattle.refusal.proofs.Checks.{passes-complete, fails-complete, causes}
+use Rattle.refusal.specs.declared.Check.{Check}
+use Rattle.refusal.specs.declared.Check.the-variants.{R1, R2, R3, R4, R5, R6, R7, R8}
+use Rattle.refusal.specs.declared.MaybeCheck.{MaybeCheck}
+use Rattle.refusal.specs.declared.MaybeCheck.the-variants.{Some, None}
+use Rattle.engineering.specs.Block.{fits, engineeringOf, noEngineering}
 use Rattle.report.specs.Report.{dataType, body, block, basicOf, reportWith, reportOf}
 use Rattle.report.specs.Check.{r4, reportChecks, passing, failing}
 use Rattle.report.specs.Check.{checkedAs, checkedReport, completedReport, parsedReport}

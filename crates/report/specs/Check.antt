@@ -14,12 +14,12 @@ use Prim.Native.Nat.{ℕ, _-_}
 use lib.Dec.{leb, eqb}
 use lib.ListN.{length, getD, drop}
 use Rattle.wire.specs.Equal.{sameBytes}
-use Rattle.wire.specs.Check.{Checks, orFailed, firstFailed, outcomeOf}
-use Rattle.wire.specs.declared.Check.{Check}
-use Rattle.wire.specs.declared.Check.the-variants.{R1, R2, R3, R4, R5, R6, R7, R8}
-use Rattle.wire.specs.declared.MaybeCheck.{MaybeCheck}
-use Rattle.wire.specs.declared.MaybeCheck.the-variants.{Some, None}
-use Rattle.report.specs.Block.{fits}
+use Rattle.refusal.specs.Check.{Checks, orFailed, firstFailed, outcomeOf}
+use Rattle.refusal.specs.declared.Check.{Check}
+use Rattle.refusal.specs.declared.Check.the-variants.{R1, R2, R3, R4, R5, R6, R7, R8}
+use Rattle.refusal.specs.declared.MaybeCheck.{MaybeCheck}
+use Rattle.refusal.specs.declared.MaybeCheck.the-variants.{Some, None}
+use Rattle.engineering.specs.Block.{fits}
 use Rattle.report.specs.Report.{dataType, body, block, isEngineering, reportBy, reportOf, noReport}
 use Rattle.report.specs.declared.Basic.{Basic}
 use Rattle.report.specs.declared.Report.{Report}

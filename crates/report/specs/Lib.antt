@@ -1,4 +1,2 @@
-pub mod State
-pub mod Block
 pub mod Report
 pub mod Check

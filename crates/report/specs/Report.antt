@@ -18,15 +18,15 @@ use Prim.Native.Nat.{ℕ, _-_}
 use lib.Dec.{leb, eqb}
 use lib.ListN.{length, getD, take, drop}
 use Rattle.wire.specs.Number.{little}
-use Rattle.report.specs.State.{stateOf, movingOf, stationaryOf}
-use Rattle.report.specs.Block.{engineeringIf, noEngineering}
-use Rattle.report.specs.declared.TargetState.the-variants as State
+use Rattle.target_state.specs.State.{stateOf, movingOf, stationaryOf}
+use Rattle.engineering.specs.Block.{engineeringIf, noEngineering}
+use Rattle.target_state.specs.declared.TargetState.the-variants as State
 use Rattle.report.specs.declared.MaybeTarget.{MaybeTarget}
 use Rattle.report.specs.declared.MaybeTarget.the-variants as MaybeTarget
 use Rattle.report.specs.declared.Basic.{Basic}
 use Rattle.report.specs.declared.MaybeBasic.{MaybeBasic}
 use Rattle.report.specs.declared.MaybeBasic.the-variants as MaybeBasic
-use Rattle.report.specs.declared.Engineering.{Engineering}
+use Rattle.engineering.specs.declared.Engineering.{Engineering}
 use Rattle.report.specs.declared.Report.{Report}
 
 abbrev pub dataType : List ℕ → ℕ

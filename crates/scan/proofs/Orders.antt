@@ -1,31 +1,16 @@
--- Scans in order: what that says of the numbers in each state, and that a step leaves a scan in order.
+-- Scans in order: what that says of the numbers in each state.
 use mathlib.Core.Path.{_≡_, refl}
 use mathlib.Core.Bool.{Bool, true, false}
-use Prim.Native.Nat.{ℕ, _+_, _*_, _≤_, _<_}
-use native.Mathlib.Omega.{arith}
-use lib.Dec.{eqb, leb, ltb}
-use lib.ListN.{getD}
-use borrow.Author.Tests.{le-leb, lt-ltb, ltb-true, leb-true, eq-eqb, eqb-false}
-use Rattle.wire.specs.Family.{header, tail, startingWith}
+use Prim.Native.Nat.{ℕ, _≤_, _<_}
+use lib.Dec.{leb, ltb}
+use borrow.Author.Tests.{ltb-true, leb-true, eq-eqb}
 use Rattle.wire.specs.declared.Kind.{Kind}
-use Rattle.wire.specs.declared.MaybeKind.{MaybeKind}
-use Rattle.wire.specs.declared.MaybeKind.the-variants.{Some, None}
 use Rattle.stream.specs.Scan.{inRange}
 use Rattle.scan.specs.Scan.{at, inOrder, orHunting, settled}
-use Rattle.scan.specs.Step.{abandoned, startAs, startOf, stepHeader, stepLen, stepData, stepTail}
-use Rattle.scan.specs.Step.{stepIn, stepOf}
-use Rattle.scan.specs.Phase.{pick, dataAt}
-use Rattle.scan.specs.declared.State.{State}
+use Rattle.scan.specs.Scan.{pick, dataAt}
 use Rattle.scan.specs.declared.State.the-variants.{Header, Len, Data, Tail}
 use Rattle.scan.specs.declared.Scan.{Scan}
-use Rattle.scan.specs.declared.Stats.{Stats}
-use Rattle.scan.specs.declared.Stepped.{Stepped}
-use Rattle.scan.proofs.Ranges.{and-intro, and-left, and-right, range-low, range-high}
-use Rattle.scan.proofs.Turns.{data-step, either}
-
--- Not the last of four is below it.
-ne-le : (m : ℕ) → eqb m 3 ≡ false → m ≤ 3 → m < 3
-ne-le m e l = let ne : (m ≡ 3 → ⊥) = eqb-false m 3 e in omega arith
+use Rattle.scan.proofs.Ranges.{and-intro, and-left, and-right, range-high}
 
 -- What the order says, state by state.
 module _ (most : ℕ) (c : Scan) (o : inOrder most c ≡ true) where
@@ -56,17 +41,14 @@ module _ (most : ℕ) (c : Scan) (o : inOrder most c ≡ true) where
   unfolding inOrder
   tail-matched e = leb-true (c .matched) 3 (and-left (leb (c .matched) 3) _ (rw e at o))
 
-  tail-range : c .state ≡ Tail → inRange most (c .len) ≡ true
+  pub tail-range : c .state ≡ Tail → inRange most (c .len) ≡ true
   unfolding inOrder
   tail-range e = and-left (inRange most (c .len)) _ (and-right (leb (c .matched) 3) _ (rw e at o))
 
   pub tail-most : c .state ≡ Tail → c .len ≤ most
   tail-most e = range-high most (c .len) (tail-range e)
 
--- A step leaves a scan in order.
-abbrev Ordered : ℕ → Stepped → Type 0
-Ordered most r = inOrder most (r .scan) ≡ true
-
+-- Behind p of n data bytes, a scan is in order.
 module _ (most : ℕ) (k : Kind) (n p : ℕ) (r : inRange most n ≡ true) where
   pub data-at-order : inOrder most (dataAt k n p) ≡ true
   unfolding inOrder
@@ -75,53 +57,6 @@ module _ (most : ℕ) (k : Kind) (n p : ℕ) (r : inRange most n ≡ true) where
       go : (x : Bool) → ltb p n ≡ x → inOrder most (pick x (at Data k 0 n p) (at Tail k 0 n n)) ≡ true
       go true l = and-intro r l
       go false l = and-intro r (eq-eqb n n refl)
-
-module _ (most b : ℕ) where
-  start-as-order : (st : Stats) (o : MaybeKind) → Ordered most (startAs st o)
-  unfolding inOrder
-  start-as-order st (Some k) = refl
-  start-as-order st None = refl
-
-  start-order : (st : Stats) → Ordered most (startOf st b)
-  unfolding startOf
-  start-order st = start-as-order st (startingWith b)
-
-  module _ (st : Stats) (k : Kind) where
-    header-order : (m : ℕ) → m ≤ 3 → Ordered most (stepHeader k m st b)
-    unfolding inOrder
-    header-order m l = either (Ordered most) (eqb m 0) _ _ (λ z. start-order st)
-        (λ z. either (Ordered most) (eqb b (getD (header k) m 0)) _ _
-        (λ e. either (Ordered most) (eqb m 3) _ _ (λ t. refl) (λ t. le-leb (m + 1) 3 (omega (arith, ne-le m t l))))
-        (λ e. start-order (abandoned st m)))
-
-    length-order : (m n : ℕ) → b < 256 → Ordered most (stepLen most k m n st b)
-    unfolding inOrder
-    length-order m n l = either (Ordered most) (eqb m 0) _ _ (λ z. and-intro (le-leb b 255 (omega arith)) refl)
-        (λ z. either (Ordered most) (inRange most (n + 256 * b)) _ _
-        (λ r. and-intro r (lt-ltb 0 (n + 256 * b) (omega (arith, range-low most (n + 256 * b) r))))
-        (λ r. start-order (abandoned st 5)))
-
-    data-order : (n p : ℕ) → inRange most n ≡ true → Ordered most (stepData k n p st)
-    data-order n p r = rw (data-step st k n p) (data-at-order most k n (p + 1) r)
-
-    tail-order : (m n : ℕ) → m ≤ 3 → inRange most n ≡ true → Ordered most (stepTail k m n st b)
-    unfolding inOrder
-    tail-order m n l r = either (Ordered most) (eqb b (getD (tail k) m 0)) _ _
-        (λ e. either (Ordered most) (eqb m 3) _ _ (λ t. refl)
-        (λ t. and-intro (le-leb (m + 1) 3 (omega (arith, ne-le m t l))) (and-intro r (eq-eqb n n refl))))
-        (λ e. start-order (abandoned st (6 + n + m)))
-
-  pub step-order : (c : Scan) (st : Stats) → inOrder most c ≡ true → b < 256
-      → inOrder most (stepOf most c st b .scan) ≡ true
-  unfolding stepOf
-  step-order c st o l = go (c .state) refl
-    where
-      go : (s : State) → c .state ≡ s
-          → Ordered most (stepIn most s (c .kind) (c .matched) (c .len) (c .pos) st b)
-      go Header e = header-order st (c .kind) (c .matched) (header-matched most c o e)
-      go Len e = length-order st (c .kind) (c .matched) (c .len) l
-      go Data e = data-order st (c .kind) (c .len) (c .pos) (data-range most c o e)
-      go Tail e = tail-order st (c .kind) (c .matched) (c .len) (tail-matched most c o e) (tail-range most c o e)
 
 -- A settled scan is in order, and one in order is settled.
 module _ (most : ℕ) where

@@ -1,4 +1,2 @@
 pub mod Scan
-pub mod Step
-pub mod Slice
-pub mod Phase
+pub mod Start

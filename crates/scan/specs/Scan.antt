@@ -1,6 +1,7 @@
 -- Where a parser is in a frame, and the string that it stands for.
 --   hunting          a scan that looks for a header: every number 0
 --   inOrder most c   no field of the scan c is out of range, by document 01, point 5
+--   dataAt k n p     the scan behind p of n data bytes
 --   settled most c   c, or, where a field is out of range, c "as if reset came first"
 --   pendingOf c buf  the bytes of the frame in progress that a scan in order stands for
 --   unfinishedAt c   how many they are; unfinishedBy most c, of any scan, settled first
@@ -23,6 +24,13 @@ at s k m n p = record { state = s; kind = k; matched = m; len = n; pos = p }
 
 abbrev pub hunting : Scan
 hunting = at Header Report 0 0 0
+
+abbrev pub pick : Bool → Scan → Scan → Scan
+pick true c other = c
+pick false c other = other
+
+abbrev pub dataAt : Kind → ℕ → ℕ → Scan
+dataAt k n p = pick (ltb p n) (at Data k 0 n p) (at Tail k 0 n n)
 
 -- "matched above 3 in a header or tail; in the length, matched above 1, length above 255, or length not 0 with matched 0;
 -- in data or tail, length outside 2 to 54; position not below it in data, not equal to it in the tail"

@@ -6,12 +6,12 @@ use Prim.Native.Nat.{ℕ, zero, suc, _-_, _<_}
 use native.Mathlib.Omega.{arith}
 use lib.ListN.{length, take, drop}
 use lib.Seq.{take-at, drop-drop}
-use Rattle.wire.specs.Check.{firstFailed}
+use Rattle.refusal.specs.Check.{firstFailed}
 use Rattle.wire.specs.Family.{tail, framed}
 use Rattle.wire.specs.declared.Kind.{Kind}
 use Rattle.wire.specs.declared.Kind.the-variants.{Report, Command}
-use Rattle.wire.specs.declared.MaybeCheck.{MaybeCheck}
-use Rattle.wire.specs.declared.MaybeCheck.the-variants as Maybe
+use Rattle.refusal.specs.declared.MaybeCheck.{MaybeCheck}
+use Rattle.refusal.specs.declared.MaybeCheck.the-variants as Maybe
 use Rattle.ack.specs.Ack.{ackOf}
 use Rattle.frame.specs.Frame.{bodyChecks, frameOf, frameIf, decoded, checkedFrame}
 use Rattle.frame.proofs.Framed.{framed-data, checked-framed}

@@ -5,7 +5,7 @@ use mathlib.Core.List.{List, [], _∷_, _++_}
 use Prim.Native.Nat.{ℕ, _<_}
 use lib.Dec.{T}
 use lib.ListN.{length, getD, take}
-use Rattle.wire.specs.Check.{firstFailed}
+use Rattle.refusal.specs.Check.{firstFailed}
 use Rattle.wire.specs.Number.{little}
 use Rattle.wire.specs.Family.{header, tail, framed}
 use Rattle.wire.specs.declared.Kind.{Kind}

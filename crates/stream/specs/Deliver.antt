@@ -10,8 +10,8 @@ use mathlib.Core.List.{List, []}
 use mathlib.Core.Bool.{Bool, true, false, not}
 use Prim.Native.Nat.{ℕ}
 use lib.ListN.{take, drop}
-use Rattle.wire.specs.declared.MaybeCheck.{MaybeCheck}
-use Rattle.wire.specs.declared.MaybeCheck.the-variants as Maybe
+use Rattle.refusal.specs.declared.MaybeCheck.{MaybeCheck}
+use Rattle.refusal.specs.declared.MaybeCheck.the-variants as Maybe
 use Rattle.frame.specs.Frame.{startingAt, noFrame, checkedFrame}
 use Rattle.frame.specs.declared.FrameKind.{FrameKind}
 use Rattle.frame.specs.declared.FrameKind.the-variants as Is

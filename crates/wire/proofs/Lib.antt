@@ -1,8 +1,6 @@
 -- Laws about the definitions, which the proofs of this crate and of the crates above cite.
 -- Two byte strings are the same, or differ.
 pub mod Equality
--- The first check that fails.
-pub mod Checks
 -- The families' headers.
 pub mod Families
 -- Numbers on the wire: where they are, and where they are missing.

@@ -1,5 +1,3 @@
-pub mod Refusal
-pub mod Check
 pub mod Family
 pub mod Number
 pub mod Counter

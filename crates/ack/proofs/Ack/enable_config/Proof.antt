@@ -1,9 +1,9 @@
 -- `ack::Ack::enable_config` meets its contract, by what `expect` answers. Assumes nothing.
 use borrow.Author.Needs.{needs}
 use mathlib.Core.Path.{refl, sym, _∙_}
-use Rattle.ack.specs.Replies.{enableConfigReply, enableConfigAs, outcomeOfEnableConfig}
+use Rattle.reply.specs.Replies.{enableConfigReply, enableConfigAs, outcomeOfEnableConfig}
 use Rattle.ack.proofs.Awaiting.{replied-read, replied-refused}
-use Rattle.ack.proofs.Answers.{enable-config-outcome}
+use Rattle.reply.proofs.Answers.{enable-config-outcome}
 use Rattle.ack.proofs.Ack.enable_config.Statement.{statement}
 use Rattle.ack.proofs.Ack.enable_config.Tie as tie
 

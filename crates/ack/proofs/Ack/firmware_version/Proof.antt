@@ -1,9 +1,9 @@
 -- `ack::Ack::firmware_version` meets its contract, by what `expect` answers. Assumes nothing.
 use borrow.Author.Needs.{needs}
 use mathlib.Core.Path.{refl, sym, _∙_}
-use Rattle.ack.specs.Replies.{firmwareReply, firmwareAs, outcomeOfFirmware}
+use Rattle.reply.specs.Replies.{firmwareReply, firmwareAs, outcomeOfFirmware}
 use Rattle.ack.proofs.Awaiting.{replied-read, replied-refused}
-use Rattle.ack.proofs.Answers.{firmware-outcome}
+use Rattle.reply.proofs.Answers.{firmware-outcome}
 use Rattle.ack.proofs.Ack.firmware_version.Statement.{statement}
 use Rattle.ack.proofs.Ack.firmware_version.Tie as tie
 

@@ -1,9 +1,9 @@
 -- `ack::Ack::mac` meets its contract, by what `expect` answers. Assumes nothing.
 use borrow.Author.Needs.{needs}
 use mathlib.Core.Path.{sym, _∙_}
-use Rattle.ack.specs.Replies.{macReply, macAs}
+use Rattle.reply.specs.Replies.{macReply, macAs}
 use Rattle.ack.proofs.Awaiting.{replied-read, replied-refused}
-use Rattle.ack.proofs.Answers.{mac-outcome}
+use Rattle.reply.proofs.Answers.{mac-outcome}
 use Rattle.ack.proofs.Ack.mac.Statement.{statement}
 use Rattle.ack.proofs.Ack.mac.Tie as tie
 

@@ -6,7 +6,7 @@ use Rattle.frame.proofs.Frame.parse.Tie as tie
 use Rattle.frame.proofs.Frame.parse.Reads as reads
 use Rattle.frame.proofs.Frame.parse.Lts as lts
 use Rattle.frame.proofs.Frame.checked.Reads as checked-reads
-use Rattle.wire.proofs.MaybeCheck.outcome.Reads as outcome-reads
+use Rattle.refusal.proofs.MaybeCheck.outcome.Reads as outcome-reads
 
 checked-requires : tie.Need-checked-requires
 checked-requires c κs = search needs

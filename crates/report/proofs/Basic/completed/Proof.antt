@@ -2,7 +2,7 @@
 -- Assumes nothing.
 use mathlib.Core.Path.{sym, _∙_}
 use borrow.Author.Needs.{needs}
-use Rattle.report.proofs.Blocks.{read-fits, read-unfit}
+use Rattle.engineering.proofs.Blocks.{read-fits, read-unfit}
 use Rattle.report.proofs.Answers.{fails-R6, fails-R7, fails-R8, completes-basic, completes-engineering}
 use Rattle.report.proofs.Basic.completed.Statement.{statement}
 use Rattle.report.proofs.Basic.completed.Tie as tie

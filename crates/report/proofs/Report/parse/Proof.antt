@@ -1,7 +1,7 @@
 -- `report::Report::parse` meets its contract, by what `checked` and `outcome` ensure. Assumes nothing.
 use mathlib.Core.Path.{ap, _∙_}
 use borrow.Author.Needs.{needs}
-use Rattle.wire.specs.Check.{outcomeOf}
+use Rattle.refusal.specs.Check.{outcomeOf}
 use Rattle.report.specs.Check.{parsedReport}
 use Rattle.report.proofs.Answers.{parsed-causes}
 use Rattle.report.proofs.Report.parse.Statement.{statement}

@@ -1,7 +1,7 @@
 -- `scan::Scan::in_data` meets its contract: the test is the definition's. Assumes nothing.
 use borrow.Author.Needs.{needs}
 use mathlib.Core.Path.{sym, _∙_}
-use Rattle.scan.proofs.Turns.{data-some, data-whole}
+use Rattle.scan.proofs.Starts.{data-some, data-whole}
 use Rattle.scan.proofs.Scan.in_data.Statement.{statement}
 use Rattle.scan.proofs.Scan.in_data.Tie as tie
 

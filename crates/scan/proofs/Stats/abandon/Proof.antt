@@ -1,6 +1,6 @@
 -- `scan::Stats::abandon` meets its contract: it bumps the definition's two counters. Assumes nothing.
 use borrow.Author.Needs.{needs}
-use Rattle.scan.specs.Step.{abandoned}
+use Rattle.scan.specs.Start.{abandoned}
 use Rattle.scan.proofs.Stats.abandon.Statement.{statement}
 use Rattle.scan.proofs.Stats.abandon.Tie as tie
 

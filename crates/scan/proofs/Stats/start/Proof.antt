@@ -1,7 +1,7 @@
 -- `scan::Stats::start` meets its contract, whether the byte starts a header or not. Assumes nothing.
 use borrow.Author.Needs.{needs}
 use mathlib.Core.Path.{sym, _∙_}
-use Rattle.scan.proofs.Turns.{start-some, start-none}
+use Rattle.scan.proofs.Starts.{start-some, start-none}
 use Rattle.scan.proofs.Stats.start.Statement.{statement}
 use Rattle.scan.proofs.Stats.start.Tie as tie
 

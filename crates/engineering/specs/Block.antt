@@ -1,0 +1,87 @@
+-- The engineering block of a report: `max_moving_gate`, `max_stationary_gate` (each 0 to 8), that many plus one
+-- energies of each, then reserved bytes.
+--   movingGates b, stationaryGates b   how many energies of each the block b announces
+--   reserved b             the bytes behind the energies
+--   fits b                 the two counts are there and in range, and the energies are there
+--   extraMost              the most that `extra_len` counts
+--   extraCount s           how many reserved bytes s are, as far as it counts
+--   engineeringOf b        what a block that fits is read as
+--   noEngineering          every field 0
+--   engineeringIf flag b   what the block b is read as; every field 0 with the flag off
+--   checkedBlock b         whether the block b fits, and what it is then read as
+--   noBlock                the same of a block that does not fit
+--   extraSlice e           the reserved bytes that were kept, with their valid count, at most 8
+--   extraAt e i            reserved byte i, or none
+use mathlib.Core.List.{List}
+use mathlib.Core.Bool.{Bool, true, false, _&&_}
+use Prim.Native.Nat.{ℕ, _+_, min}
+use lib.Dec.{leb, ltb}
+use lib.ListN.{length, getD, take, drop, replicate}
+use Rattle.wire.specs.Prefix.{padded}
+use Rattle.wire.specs.Number.{answered, ifThere}
+use Rattle.wire.specs.declared.MaybeU8.{MaybeU8}
+use Rattle.wire.specs.declared.MaybeU8.the-variants.{Some, None}
+use Rattle.engineering.specs.declared.Engineering.{Engineering}
+use Rattle.engineering.specs.declared.ExtraSlice.{ExtraSlice}
+use Rattle.engineering.specs.declared.CheckedEngineering.{CheckedEngineering}
+
+-- "that many plus one energies of each"
+abbrev pub movingGates : List ℕ → ℕ
+movingGates b = getD b 0 0 + 1
+
+abbrev pub stationaryGates : List ℕ → ℕ
+stationaryGates b = getD b 1 0 + 1
+
+abbrev pub reserved : List ℕ → List ℕ
+reserved b = drop (2 + movingGates b + stationaryGates b) b
+
+-- "each 0 to 8", so at most nine energies
+unfoldable pub fits : List ℕ → Bool
+fits b = leb 2 (length b) && (leb (movingGates b) 9 && (leb (stationaryGates b) 9
+    && leb (2 + movingGates b + stationaryGates b) (length b)))
+
+-- "`extra_len` counts all of them and stops at 255"
+abbrev pub extraMost : ℕ
+extraMost = 255
+
+abbrev pub extraCount : List ℕ → ℕ
+extraCount s = min (length s) extraMost
+
+-- "the first eight are kept"
+unfoldable pub engineeringOf : List ℕ → Engineering
+engineeringOf b = record {
+  «moving_gates» = movingGates b;
+  «stationary_gates» = stationaryGates b;
+  «moving_energy» = padded 9 (take (movingGates b) (drop 2 b));
+  «stationary_energy» = padded 9 (take (stationaryGates b) (drop (2 + movingGates b) b));
+  extra = padded 8 (reserved b);
+  «extra_len» = extraCount (reserved b);
+}
+
+abbrev pub noEngineering : Engineering
+noEngineering = record {
+  «moving_gates» = 0;
+  «stationary_gates» = 0;
+  «moving_energy» = replicate 9 0;
+  «stationary_energy» = replicate 9 0;
+  extra = replicate 8 0;
+  «extra_len» = 0;
+}
+
+-- "with the flag off, each per-gate field is 0"
+abbrev pub engineeringIf : Bool → List ℕ → Engineering
+engineeringIf true b = engineeringOf b
+engineeringIf false b = noEngineering
+
+unfoldable pub checkedBlock : List ℕ → CheckedEngineering
+checkedBlock b = record { fits = fits b; engineering = engineeringIf (fits b) b }
+
+abbrev pub noBlock : CheckedEngineering
+noBlock = record { fits = false; engineering = noEngineering }
+
+abbrev pub extraSlice : Engineering → ExtraSlice
+extraSlice e = record { bytes = e .extra; count = min (e .«extra_len») 8 }
+
+-- "`light` and `out_pin` are reserved bytes 0 and 1, or none"
+unfoldable pub extraAt : Engineering → ℕ → MaybeU8
+extraAt e i = answered Some None (ifThere (ltb i (extraSlice e .count)) (getD (e .extra) i 0))

@@ -1,0 +1,176 @@
+// The engineering block of a report: energies by gate and reserved bytes, reading them, and the accessors.
+//
+// `Option<Engineering>` of the Rust is a flag beside the block, whose fields are all 0 where the flag is off.
+use wire::GATES;
+use wire::GateSlice;
+use wire::MAX_EXTRA;
+use wire::MaybeU8;
+use wire::byte_at;
+use wire::copy_prefix;
+use wire::gate_array;
+use wire::least;
+ghost use mathlib.Core.Path.{_≡_};
+ghost use Rattle.wire.specs.Prefix.{padded, gateSlice};
+ghost use Rattle.engineering.specs.Block.{extraCount, checkedBlock, noBlock, noEngineering, extraSlice, extraAt};
+
+// The most that `extra_len` counts.
+const EXTRA_LEN_MAX: usize = 255;
+
+// Reserved bytes, of which the first `count` are valid.
+pub struct ExtraSlice {
+    pub bytes: [u8; MAX_EXTRA],
+    pub count: usize,
+}
+
+// The engineering part of a report: energies by gate, and the first reserved bytes.
+pub struct Engineering {
+    // How many gates are reported, `max_moving_gate` and `max_stationary_gate` plus one: so many energies are valid.
+    pub moving_gates: u8,
+    pub stationary_gates: u8,
+    // Gate 0 first; 0 past the valid ones.
+    pub moving_energy: [u8; GATES],
+    pub stationary_energy: [u8; GATES],
+    // The first reserved bytes, 0 where there are fewer.
+    pub extra: [u8; MAX_EXTRA],
+    // How many reserved bytes were sent, kept or not; stops at 255.
+    pub extra_len: u8,
+}
+
+// Whether the engineering block fits, and what it then reads as; else all 0.
+pub struct CheckedEngineering {
+    pub fits: bool,
+    pub engineering: Engineering,
+}
+
+impl Engineering {
+    // Valid moving energies, gate 0 first.
+    pub fn moving(self) -> GateSlice
+        ensures given { λ r. ⌜ r ≡ gateSlice (self .«moving_energy») (self .«moving_gates») ⌝ }
+    {
+        let energies = self.moving_energy;
+        GateSlice::new(energies, self.moving_gates as usize)
+    }
+
+    // Valid stationary energies, gate 0 first.
+    pub fn stationary(self) -> GateSlice
+        ensures given { λ r. ⌜ r ≡ gateSlice (self .«stationary_energy») (self .«stationary_gates») ⌝ }
+    {
+        let energies = self.stationary_energy;
+        GateSlice::new(energies, self.stationary_gates as usize)
+    }
+
+    // The reserved bytes that were kept.
+    pub fn extra(self) -> ExtraSlice
+        ensures given { λ r. ⌜ r ≡ extraSlice self ⌝ }
+    {
+        let bytes = self.extra;
+        ExtraSlice {
+            bytes,
+            count: least(self.extra_len as usize, MAX_EXTRA),
+        }
+    }
+
+    // Light level on firmware that reports it: reserved byte 0.
+    pub fn light(self) -> MaybeU8
+        ensures given { λ r. ⌜ r ≡ extraAt self 0 ⌝ }
+    {
+        self.extra_at(0)
+    }
+
+    // OUT pin state on firmware that reports it: reserved byte 1.
+    pub fn out_pin(self) -> MaybeU8
+        ensures given { λ r. ⌜ r ≡ extraAt self 1 ⌝ }
+    {
+        self.extra_at(1)
+    }
+
+    // Reserved byte `i`, or `None` where it was not sent or not kept.
+    fn extra_at(self, i: usize) -> MaybeU8
+        ensures given { λ r. ⌜ r ≡ extraAt self i ⌝ }
+    {
+        let kept = self.extra();
+        if i < kept.count {
+            let bytes = kept.bytes;
+            MaybeU8::Some(bytes[i])
+        } else {
+            MaybeU8::None
+        }
+    }
+
+    // Reads the bytes behind the basic ones: two gate counts, the energies of each, then reserved bytes (check R8).
+    pub fn parse(block: &[u8]) -> CheckedEngineering
+        ensures checked { λ r. ⌜ r ≡ checkedBlock (now (block .entry)) ⌝ }
+    {
+        let MaybeU8::Some(max_moving_gate) = byte_at(block, 0) else {
+            return no_block();
+        };
+        let MaybeU8::Some(max_stationary_gate) = byte_at(block, 1) else {
+            return no_block();
+        };
+        let moving_gates = max_moving_gate as usize + 1;
+        let stationary_gates = max_stationary_gate as usize + 1;
+        if moving_gates > GATES {
+            return no_block();
+        }
+        if stationary_gates > GATES {
+            return no_block();
+        }
+        let moving_end = 2 + moving_gates;
+        let stationary_end = moving_end + stationary_gates;
+        if block.len() < stationary_end {
+            return no_block();
+        }
+        let reserved = &block[stationary_end..];
+        CheckedEngineering {
+            fits: true,
+            engineering: Engineering {
+                moving_gates: max_moving_gate + 1,
+                stationary_gates: max_stationary_gate + 1,
+                moving_energy: gate_array(&block[2..moving_end]),
+                stationary_energy: gate_array(&block[moving_end..stationary_end]),
+                extra: extra_array(reserved),
+                extra_len: extra_count(reserved),
+            },
+        }
+    }
+}
+
+// An engineering part whose fields are all 0.
+pub fn no_engineering() -> Engineering
+    ensures zero { λ r. ⌜ r ≡ noEngineering ⌝ }
+{
+    Engineering {
+        moving_gates: 0,
+        stationary_gates: 0,
+        moving_energy: [0; GATES],
+        stationary_energy: [0; GATES],
+        extra: [0; MAX_EXTRA],
+        extra_len: 0,
+    }
+}
+
+// A block that does not fit.
+fn no_block() -> CheckedEngineering
+    ensures made { λ r. ⌜ r ≡ noBlock ⌝ }
+{
+    CheckedEngineering {
+        fits: false,
+        engineering: no_engineering(),
+    }
+}
+
+// How many reserved bytes there are, as far as `extra_len` counts.
+fn extra_count(reserved: &[u8]) -> u8
+    ensures counted { λ r. ⌜ r ≡ extraCount (now (reserved .entry)) ⌝ }
+{
+    least(reserved.len(), EXTRA_LEN_MAX) as u8
+}
+
+// The first reserved bytes, 0 where there are fewer than are kept.
+fn extra_array(src: &[u8]) -> [u8; MAX_EXTRA]
+    ensures copied { λ r. ⌜ r ≡ padded 8 (now (src .entry)) ⌝ }
+{
+    let mut bytes: [u8; MAX_EXTRA] = [0; MAX_EXTRA];
+    copy_prefix(&mut bytes, src);
+    bytes
+}

@@ -1,0 +1,3 @@
+-- Laws about the definitions, which the proofs of this crate and of the crates above cite.
+-- The first check that fails.
+pub mod Checks

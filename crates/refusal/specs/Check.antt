@@ -1,0 +1,73 @@
+-- The checks of document 01 as values, and what fails first.
+--   Checks            checks in the order in which they are made, each with the test that it is on a byte string
+--   firstFailed cs s  the first of the checks cs that fails on s, if one does
+--   Passes cs s       no check of cs fails on s
+--   FailsFirst cs c s the check c of cs fails on s, and each before it holds
+--   errorOf c         the refusal where c is the first to fail: "R6 (else refusal 2)", every other gives 1
+--   outcomeOf o       the outcome of a reader whose first failed check, if any, is o
+--   Causes cs s o     each number is given by the outcome o exactly in its cause
+use mathlib.Core.Path.{_≡_}
+use mathlib.Core.Logic.{_≢_, _↔_}
+use mathlib.Core.List.{List, [], _∷_, _++_}
+use mathlib.Core.Bool.{Bool, true, false}
+use Prim.Native.Nat.{ℕ}
+use Rattle.refusal.specs.declared.Error.{Error}
+use Rattle.refusal.specs.declared.Error.the-variants.{InvalidFormat, Unsupported}
+use Rattle.refusal.specs.Refusal.{refusalOf}
+use Rattle.refusal.specs.declared.Outcome.{Outcome}
+use Rattle.refusal.specs.declared.Outcome.the-variants.{Ok, Err}
+use Rattle.refusal.specs.declared.MaybeCheck.{MaybeCheck}
+use Rattle.refusal.specs.declared.MaybeCheck.the-variants as Maybe
+use Rattle.refusal.specs.declared.Check.{Check}
+use Rattle.refusal.specs.declared.Check.the-variants.{F1, F2, F3, F4, R1, R2, R3, R4, R5, R6, R7, R8, A1, A2}
+
+abbrev pub Checks : Type 0
+Checks = List (Check × (List ℕ → Bool))
+
+abbrev pub orFailed : Bool → Check → MaybeCheck → MaybeCheck
+orFailed true c later = later
+orFailed false c later = Maybe.Some c
+
+abbrev pub firstFailed : Checks → List ℕ → MaybeCheck
+firstFailed [] s = Maybe.None
+firstFailed (x ∷ cs) s = orFailed (x .1 s) (x .0) (firstFailed cs s)
+
+abbrev pub Passes : Checks → List ℕ → Type 0
+Passes [] s = Unit {0}
+Passes (x ∷ cs) s = (x .1 s ≡ true) × Passes cs s
+
+pub record FailsFirst (cs : Checks) (c : Check) (s : List ℕ) : Type 0 where
+  pub before : Checks
+  pub test : List ℕ → Bool
+  pub behind : Checks
+  pub split : cs ≡ before ++ ((c, test) ∷ behind)
+  pub held : Passes before s
+  pub failed : test s ≡ false
+
+abbrev pub errorOf : Check → Error
+errorOf F1 = InvalidFormat
+errorOf F2 = InvalidFormat
+errorOf F3 = InvalidFormat
+errorOf F4 = InvalidFormat
+errorOf R1 = InvalidFormat
+errorOf R2 = InvalidFormat
+errorOf R3 = InvalidFormat
+errorOf R4 = InvalidFormat
+errorOf R5 = InvalidFormat
+errorOf R6 = Unsupported
+errorOf R7 = InvalidFormat
+errorOf R8 = InvalidFormat
+errorOf A1 = InvalidFormat
+errorOf A2 = InvalidFormat
+
+abbrev pub outcomeOf : MaybeCheck → Outcome
+outcomeOf (Maybe.Some c) = Err (errorOf c)
+outcomeOf Maybe.None = Ok
+
+pub record Causes (cs : Checks) (s : List ℕ) (o : Outcome) : Type 0 where
+  -- nothing is refused exactly if every check holds
+  pub accepted : refusalOf o ≡ 0 ↔ Passes cs s
+  -- 1 is given exactly where the first check that fails is another than R6
+  pub invalid : refusalOf o ≡ 1 ↔ (c : Check) × FailsFirst cs c s × (c ≢ R6)
+  -- 2 is given exactly where that is R6
+  pub unsupported : refusalOf o ≡ 2 ↔ FailsFirst cs R6 s

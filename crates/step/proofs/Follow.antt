@@ -1,0 +1,159 @@
+-- A parser's step follows the scanner's: it stands for the same pending string, ended the same frame and counted the same
+-- pieces. One lemma for each thing that a byte can do.
+use mathlib.Core.Path.{_≡_, refl, sym, ap, _∙_}
+use mathlib.Core.List.{List, [], _∷_, _++_}
+use mathlib.Core.Bool.{Bool, true, false}
+use mathlib.Core.Option.{Option, none, some}
+use Prim.Native.Nat.{ℕ, _+_, _≤_, _<_}
+use native.Mathlib.Omega.{arith}
+use lib.Dec.{T}
+use lib.ListN.{length, take, getD}
+use Rattle.wire.specs.Number.{leBytes}
+use Rattle.wire.specs.Counter.{counterMost, bumped}
+use Rattle.wire.proofs.Counters.{bumped-append, bumped-nil, bumped-most}
+use Rattle.wire.specs.Family.{header, tail, startingWith}
+use Rattle.wire.specs.declared.Kind.{Kind}
+use Rattle.wire.specs.declared.Kind.the-variants.{Report, Command}
+use Rattle.wire.specs.declared.MaybeKind.{MaybeKind}
+use Rattle.wire.specs.declared.MaybeKind.the-variants.{Some, None}
+use Rattle.framing.specs.Framing.{Framing, Waits}
+use Rattle.framing.specs.Tally.{sum, resynced, lost}
+use Rattle.framing.specs.Scanner as Scanner
+use Rattle.framing.proofs.View.{step-whole, step-on, step-over}
+use Rattle.stream.specs.Scan.{opens, wholes}
+use Rattle.stream.specs.Link.{link}
+use Rattle.stream.proofs.Steps.{starting-sound, start-opens, start-strays, start-not-whole}
+use Rattle.scan.specs.Scan.{at, hunting, orderIn, inOrder, pendingIn, pendingOf}
+use Rattle.scan.specs.Start.{went, dropping, abandoned, startAs, startOf}
+use Rattle.scan.specs.declared.State.the-variants.{Header, Len, Data, Tail}
+use Rattle.scan.specs.declared.Scan.{Scan}
+use Rattle.scan.specs.declared.Stats.{Stats}
+use Rattle.scan.specs.declared.Ended.{Ended}
+use Rattle.scan.specs.declared.Ended.the-variants.{Frame, Nothing}
+use Rattle.scan.specs.declared.Stepped.{Stepped}
+
+-- No counter is past its most, which the counters' type says.
+pub record Capped (st : Stats) : Type 0 where
+  pub frames : st .frames ≤ counterMost
+  pub resyncs : st .resyncs ≤ counterMost
+  pub dropped : st .dropped ≤ counterMost
+  pub malformed : st .malformed ≤ counterMost
+
+-- The bytes of the whole frame that ended, whose data are at the front of the buffer.
+abbrev pub endedAs : Ended → List ℕ → Option (List ℕ)
+endedAs (Frame k n) buf = some (header k ++ (leBytes 2 n ++ (take n buf ++ tail k)))
+endedAs Nothing buf = none
+
+-- Its length is one that the stream takes.
+abbrev pub Fits : ℕ → Ended → Type 0
+Fits most (Frame k n) = n ≤ most
+Fits most Nothing = Unit {0}
+
+-- The step r, from the counters st and with the buffer left, does what the scanner's step x does.
+pub record Follows (most : ℕ) (r : Stepped) (st : Stats) (buf : List ℕ) (x : Scanner.Step) : Type 0 where
+  pub order : inOrder most (r .scan) ≡ true
+  pub pending : pendingOf (r .scan) buf ≡ x .pending
+  pub ended : endedAs (r .ended) buf ≡ x .ended
+  pub fits : Fits most (r .ended)
+  pub frames : r .stats .frames ≡ st .frames
+  pub malformed : r .stats .malformed ≡ st .malformed
+  pub resyncs : r .stats .resyncs ≡ bumped (st .resyncs) (sum resynced (x .closed))
+  pub dropped : r .stats .dropped ≡ bumped (st .dropped) (sum lost (x .closed))
+
+module _ (most : ℕ) (buf : List ℕ) where
+  -- Of a test that passes, and of one that fails.
+  passes : {b : Bool} → b ≡ true → T b
+  passes e = rw e tt
+
+  fails : {b : Bool} → b ≡ false → T b → ⊥
+  fails e h = rw e at h
+
+  -- The byte goes on with what is pending.
+  pub follows-on : (c : Scan) (st : Stats) (p : List ℕ) (b : ℕ) → Capped st → inOrder most c ≡ true
+      → pendingOf c buf ≡ p ++ (b ∷ []) → opens most (p ++ (b ∷ [])) ≡ true → wholes most (p ++ (b ∷ [])) ≡ false
+      → Follows most (went c st) st buf (Scanner.step (link most) p b)
+  follows-on c st p b cap i e o w = rw (step-on (link most) p b (passes o, fails w)) (record {
+    order = i;
+    pending = e;
+    ended = refl;
+    fits = tt;
+    frames = refl;
+    malformed = refl;
+    resyncs = sym (bumped-nil (st .resyncs) (cap .resyncs));
+    dropped = sym (bumped-nil (st .dropped) (cap .dropped));
+  })
+
+  -- The byte ends a frame.
+  pub follows-end : (k : Kind) (n : ℕ) (st : Stats) (p : List ℕ) (b : ℕ) → Capped st → n ≤ most
+      → header k ++ (leBytes 2 n ++ (take n buf ++ tail k)) ≡ p ++ (b ∷ []) → wholes most (p ++ (b ∷ [])) ≡ true
+      → Follows most (record { scan = hunting; stats = st; ended = Frame k n }) st buf (Scanner.step (link most) p b)
+  unfolding inOrder pendingOf
+  follows-end k n st p b cap l e w = rw (step-whole (link most) p b (passes w)) (record {
+    order = refl;
+    pending = refl;
+    ended = ap some e;
+    fits = l;
+    frames = refl;
+    malformed = refl;
+    resyncs = sym (bumped-nil (st .resyncs) (cap .resyncs));
+    dropped = sym (bumped-nil (st .dropped) (cap .dropped));
+  })
+
+  -- The byte is tried as a new start: it begins a frame, or is stray.
+  first-pending : (k : Kind) (b : ℕ) → b ≡ getD (header k) 0 0 → take 1 (header k) ≡ b ∷ []
+  first-pending Report b e = rw e
+  first-pending Command b e = rw e
+
+  start-as : (st : Stats) (b : ℕ) (o : MaybeKind) → startingWith b ≡ o → Capped st
+      → Follows most (startAs st o) st buf (Scanner.step (link most) [] b)
+  unfolding inOrder pendingOf
+  start-as st b (Some k) e cap = follows-on (at Header k 1 0 0) st [] b cap refl
+      (first-pending k b (starting-sound b k e)) (start-opens most b k e) (start-not-whole most b)
+  start-as st b None e cap = rw (step-over (link most) [] b (fails (start-strays most b e))) (record {
+    order = refl;
+    pending = refl;
+    ended = refl;
+    fits = tt;
+    frames = refl;
+    malformed = refl;
+    resyncs = sym (bumped-nil (st .resyncs) (cap .resyncs));
+    dropped = refl;
+  })
+
+  pub follows-start : (st : Stats) (b : ℕ) → Capped st
+      → Follows most (startOf st b) st buf (Scanner.step (link most) [] b)
+  unfolding startOf
+  follows-start st b cap = start-as st b (startingWith b) refl cap
+
+  -- The byte breaks what is pending, n bytes, and only it is tried as a new start.
+  abandoned-capped : (st : Stats) (n : ℕ) → Capped st → Capped (abandoned st n)
+  unfolding abandoned
+  abandoned-capped st n cap = record {
+    frames = cap .frames;
+    resyncs = bumped-most (st .resyncs) 1;
+    dropped = bumped-most (st .dropped) n;
+    malformed = cap .malformed;
+  }
+
+  after-broken : (st : Stats) (s : List ℕ) (r : Stepped) (x : Scanner.Step)
+      → Follows most r (abandoned st (length s)) buf x → Follows most r st buf (Scanner.breaks s x)
+  unfolding abandoned
+  after-broken st s r x f = record {
+    order = f .order;
+    pending = f .pending;
+    ended = f .ended;
+    fits = f .fits;
+    frames = f .frames;
+    malformed = f .malformed;
+    resyncs = f .resyncs ∙ bumped-append (st .resyncs) 1 (sum resynced (x .closed));
+    dropped = f .dropped ∙ bumped-append (st .dropped) (length s) (sum lost (x .closed));
+  }
+
+  pub follows-break : (st : Stats) (p : List ℕ) (b n : ℕ) → Capped st → 0 < n → length p ≡ n
+      → opens most (p ++ (b ∷ [])) ≡ false
+      → Follows most (startOf (abandoned st n) b) st buf (Scanner.step (link most) p b)
+  follows-break st [] b n cap l e o = absurd (omega arith)
+  follows-break st (x ∷ p) b n cap l e o =
+      rw (step-over (link most) (x ∷ p) b (fails o), ← e) (after-broken st (x ∷ p) (startOf (abandoned st (length (x ∷ p))) b)
+      (Scanner.step (link most) [] b)
+      (follows-start (abandoned st (length (x ∷ p))) b (abandoned-capped st (length (x ∷ p)) cap)))

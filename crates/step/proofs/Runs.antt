@@ -1,0 +1,91 @@
+-- The run of a slice, byte by byte and part by part.
+use mathlib.Core.Path.{_≡_, refl, ap, _∙_}
+use mathlib.Core.List.{List}
+use mathlib.Core.Bool.{true}
+use Prim.Native.Nat.{ℕ, suc, _+_, _≤_, _<_}
+use native.Mathlib.Numerals.{add-one}
+use native.Mathlib.Omega.{arith}
+use lib.ListN.{length, drop, getD, drop-of-length-le}
+use lib.Seq.{drop-cons}
+use Rattle.scan.specs.Scan.{inOrder}
+use Rattle.step.specs.Step.{stepOf, stored}
+use Rattle.step.specs.Slice.{Run, runAt, oneMore, thenRun, runOf}
+use Rattle.step.specs.Phase.{behind, runFrom, onFrom, Onward}
+use Rattle.scan.specs.Start.{takingOf}
+use Rattle.wire.specs.declared.Kind.{Kind}
+use Rattle.scan.specs.declared.Scan.{Scan}
+use Rattle.scan.specs.declared.Stats.{Stats}
+use Rattle.scan.specs.declared.Ended.{Ended}
+use Rattle.scan.specs.declared.Ended.the-variants.{Frame, Nothing}
+use Rattle.scan.specs.declared.Stepped.{Stepped}
+use Rattle.scan.specs.declared.Scanned.{Scanned}
+use Rattle.step.proofs.Onwards.{step-order}
+
+-- The run r, after n bytes.
+abbrev counting : Run → ℕ → Run
+counting r n = runAt (r .scanned .scan) (r .scanned .stats) (r .scanned .ended) n (r .buf)
+
+behind-more : (i : ℕ) (r : Run) → behind (i + 1) r ≡ behind i (oneMore r)
+behind-more i r = ap (counting r) (omega arith)
+
+module _ (most : ℕ) (c : Scan) (st : Stats) (buf bs : List ℕ) where
+  pub run-start : runFrom most c st buf bs 0 ≡ runOf most c st buf bs
+  unfolding runFrom
+  run-start = ap (counting (runOf most c st buf bs)) (omega arith)
+
+  module _ (i : ℕ) where
+    pub run-end : length bs ≤ i → runAt c st Nothing i buf ≡ runFrom most c st buf bs i
+    unfolding runFrom runOf
+    run-end l = rw (drop-of-length-le bs l) (ap (λ n. runAt c st Nothing n buf) (omega arith))
+
+    -- The byte number i, its step r and the buffer d that it leaves.
+    module _ (r : Stepped) (d : List ℕ) (inner : i < length bs) (e : r ≡ stepOf most c st (getD bs i 0))
+        (f : d ≡ stored c buf (getD bs i 0)) where
+      pub run-next : behind i (thenRun (r .ended) r d (runOf most (r .scan) (r .stats) d (drop (suc i) bs)))
+          ≡ runFrom most c st buf bs i
+      unfolding runFrom runOf
+      run-next = rw (drop-cons bs i 0 inner, e, f)
+
+      pub run-on : r .ended ≡ Nothing → runFrom most (r .scan) (r .stats) d bs (i + 1) ≡ runFrom most c st buf bs i
+      unfolding runFrom
+      run-on q = behind-more i _ ∙ (rw add-one (rw q at run-next))
+
+      taking-rest : (x : Ended) → r .ended ≡ x → onFrom most (takingOf r (i + 1)) d bs ≡ runFrom most c st buf bs i
+      unfolding onFrom
+      taking-rest (Frame k n) q = rw q (rw q at run-next)
+      taking-rest Nothing q = rw q (run-on q)
+
+      -- One byte is a part.
+      pub step-onward : inOrder most c ≡ true → getD bs i 0 < 256 → Onward most c st buf bs i (takingOf r (i + 1)) d
+      step-onward o l = record {
+        forth = omega arith;
+        inside = omega arith;
+        order = rw e (step-order most (getD bs i 0) c st o l);
+        rest = taking-rest (r .ended) refl;
+      }
+
+-- What is left of the bytes from number i on, run from here, comes to the whole run.
+pub record Left (most : ℕ) (whole : Run) (c : Scan) (st : Stats) (buf bs : List ℕ) (i : ℕ) : Type 0 where
+  pub inside : i ≤ length bs
+  pub order : inOrder most c ≡ true
+  pub rest : runFrom most c st buf bs i ≡ whole
+
+module _ (most : ℕ) (c : Scan) (st : Stats) (buf bs : List ℕ) where
+  pub left-start : inOrder most c ≡ true → Left most (runOf most c st buf bs) c st buf bs 0
+  left-start o = record { inside = omega arith; order = o; rest = run-start most c st buf bs }
+
+  module _ (whole : Run) (i : ℕ) (h : Left most whole c st buf bs i) where
+    pub left-end : length bs ≤ i → runAt c st Nothing i buf ≡ whole
+    left-end l = run-end most c st buf bs i l ∙ h .rest
+
+    -- The next part.
+    module _ (r : Scanned) (d : List ℕ) (f : Onward most c st buf bs i r d) where
+      pub left-frame : (k : Kind) (n : ℕ) → r .ended ≡ Frame k n → record { scanned = r; buf = d } ≡ whole
+      unfolding onFrom
+      left-frame k n q =
+          let rest = rw q at (f .rest) in
+          rw q (rest ∙ h .rest)
+
+      pub left-on : r .ended ≡ Nothing → Left most whole (r .scan) (r .stats) d bs (r .taken)
+      unfolding onFrom
+      left-on q = record { inside = f .inside; order = f .order; rest = (rw q at (f .rest)) ∙ h .rest }

@@ -1,0 +1,155 @@
+-- What a scan in order stands for is open and not whole, and is as long as the parser says.
+use mathlib.Core.Path.{_≡_, refl, sym, ap, _∙_}
+use mathlib.Core.List.{List, [], _∷_, _++_, append-nil}
+use mathlib.Core.Bool.{Bool, true, false, _&&_, _||_}
+use Prim.Native.Nat.{ℕ, zero, suc, _+_, _/_, _%_, _≤_, _<_}
+use native.Mathlib.Omega.{arith}
+use lib.Dec.{T, eqb, leb, ltb}
+use lib.ListN.{length, take, drop, length-append, length-take, take-append-drop}
+use lib.Seq.{length-take-le, drop-at}
+use borrow.Author.Tests.{leb-true, ltb-true}
+use Rattle.wire.specs.Number.{little, leBytes}
+use Rattle.wire.specs.Family.{header, tail}
+use Rattle.wire.proofs.Families.{header-length, tail-length}
+use Rattle.wire.specs.declared.Kind.{Kind}
+use Rattle.stream.specs.Open.{InRange, Open, in-header, in-length, in-data, in-tail, Whole}
+use Rattle.stream.specs.Scan.{inRange, opens, wholes}
+use Rattle.stream.proofs.Tested.{opens-complete, wholes-sound}
+use Rattle.scan.specs.Scan.{orderIn, inOrder, pendingIn, pendingOf, unfinishedIn, unfinishedAt}
+use Rattle.scan.specs.declared.State.{State}
+use Rattle.scan.specs.declared.State.the-variants.{Header, Len, Data, Tail}
+use Rattle.scan.specs.declared.Scan.{Scan}
+use Rattle.scan.proofs.Ranges.{and-left, and-right, range-low, range-high}
+
+-- A whole frame is ten bytes longer than the length that it holds.
+whole-length : (most : ℕ) (s : List ℕ) → Whole most s → length s ≡ 10 + little (take 2 (drop 4 s))
+whole-length most s w =
+    let r : List ℕ = w .lo ∷ w .hi ∷ (w .held ++ tail (w .kind)) in
+    let behind : drop 4 s ≡ r = rw (w .spelled) (drop-at (header (w .kind)) r 4 (header-length (w .kind))) in
+    rw behind (omega (
+      arith,
+      ap length (w .spelled),
+      length-append (header (w .kind)) r,
+      header-length (w .kind),
+      length-append (w .held) (tail (w .kind)),
+      tail-length (w .kind),
+      w .all-there,
+    ))
+
+module _ (most : ℕ) where
+  -- Fewer bytes than ten, or than ten and the length that they hold, are no whole frame.
+  short : (s : List ℕ) → length s < 10 + little (take 2 (drop 4 s)) → T (wholes most s) → ⊥
+  short s l h = omega (arith, whole-length most s (wholes-sound most s h))
+
+  -- A part of the header.
+  header-waits : (k : Kind) (m : ℕ) → m ≤ 3 → T (opens most (take m (header k))) × (T (wholes most (take m (header k))) → ⊥)
+  header-waits k m l = (
+    opens-complete most _ (in-header k (drop m (header k), take-append-drop m (header k))),
+    short (take m (header k)) (omega (arith, length-take m (header k))),
+  )
+
+  -- A header, and the first length byte or none.
+  length-waits : (k : Kind) (m n : ℕ) → m ≤ 1
+      → T (opens most (header k ++ take m (n ∷ []))) × (T (wholes most (header k ++ take m (n ∷ []))) → ⊥)
+  length-waits k zero n l = (
+    opens-complete most _ (in-header k ([], rw (append-nil (header k), append-nil (header k)))),
+    short (header k ++ []) (omega (arith, length-append (header k) [], header-length k)),
+  )
+  length-waits k (suc zero) n l = (
+    opens-complete most _ (in-length k n refl),
+    short (header k ++ (n ∷ [])) (omega (arith, length-append (header k) (n ∷ []), header-length k)),
+  )
+  length-waits k (suc (suc m)) n l = absurd (omega arith)
+
+  -- A header, a length in range and data bytes; then a part of the tail.
+  module _ (k : Kind) (n : ℕ) (r : inRange most n ≡ true) (small : most < 65536) (buf : List ℕ) (room : n ≤ length buf) where
+    again : little (leBytes 2 n) ≡ n
+    again = omega (arith, range-high most n r)
+
+    in-range : InRange most (little (leBytes 2 n))
+    in-range = rw again (range-low most n r, range-high most n r)
+
+    announced : (d : List ℕ) → little (take 2 (drop 4 (header k ++ (leBytes 2 n ++ d)))) ≡ n
+    announced d = rw (drop-at (header k) (leBytes 2 n ++ d) 4 (header-length k)) again
+
+    data-size : (d : List ℕ) → length (header k ++ (leBytes 2 n ++ d)) ≡ 6 + length d
+    data-size d = omega (arith, length-append (header k) (leBytes 2 n ++ d), header-length k)
+
+    data-waits : (p : ℕ) → p < n → T (opens most (header k ++ (leBytes 2 n ++ take p buf)))
+        × (T (wholes most (header k ++ (leBytes 2 n ++ take p buf))) → ⊥)
+    data-waits p l = (
+      opens-complete most _ (in-data k (n % 256) (n / 256 % 256) (take p buf) in-range
+          (rw again (omega (arith, length-take p buf))) refl),
+      short _ (omega (arith, announced (take p buf), data-size (take p buf), length-take p buf)),
+    )
+
+    tail-size : (m : ℕ) → m ≤ 3 → length (take n buf ++ take m (tail k)) ≡ n + m
+    tail-size m l = omega (
+      arith,
+      length-append (take n buf) (take m (tail k)),
+      length-take-le n buf room,
+      length-take m (tail k),
+      tail-length k,
+    )
+
+    tail-waits : (m : ℕ) → m ≤ 3 → T (opens most (header k ++ (leBytes 2 n ++ (take n buf ++ take m (tail k)))))
+        × (T (wholes most (header k ++ (leBytes 2 n ++ (take n buf ++ take m (tail k))))) → ⊥)
+    tail-waits m l = (
+      opens-complete most _ (in-tail k (n % 256) (n / 256 % 256) (take n buf) (take m (tail k)) in-range
+          (length-take-le n buf room ∙ sym again) (drop m (tail k), take-append-drop m (tail k)) refl),
+      short _ (omega (
+        arith,
+        announced (take n buf ++ take m (tail k)),
+        data-size (take n buf ++ take m (tail k)),
+        tail-size m l,
+      )),
+    )
+
+-- In every state.
+module _ (most : ℕ) (small : most < 65536) (buf : List ℕ) (room : most ≤ length buf) where
+  waits-in : (s : State) (k : Kind) (m n p : ℕ) → orderIn most s m n p ≡ true
+      → T (opens most (pendingIn s k m n p buf)) × (T (wholes most (pendingIn s k m n p buf)) → ⊥)
+  waits-in Header k m n p o = header-waits most k m (leb-true m 3 o)
+  waits-in Len k m n p o =
+      length-waits most k m n (leb-true m 1 (and-left (leb m 1) (leb n 255 && (eqb m 1 || eqb n 0)) o))
+  waits-in Data k m n p o =
+      let r : inRange most n ≡ true = and-left (inRange most n) (ltb p n) o in
+      data-waits most k n r small buf (omega (arith, range-high most n r)) p
+      (ltb-true p n (and-right (inRange most n) (ltb p n) o))
+  waits-in Tail k m n p o =
+      let r : inRange most n ≡ true = and-left (inRange most n) (eqb p n) (and-right (leb m 3) (inRange most n && eqb p n) o) in
+      tail-waits most k n r small buf (omega (arith, range-high most n r)) m
+      (leb-true m 3 (and-left (leb m 3) (inRange most n && eqb p n) o))
+
+  length-in : (s : State) (k : Kind) (m n p : ℕ) → orderIn most s m n p ≡ true
+      → unfinishedIn s m n p ≡ length (pendingIn s k m n p buf)
+  length-in Header k m n p o = omega (arith, leb-true m 3 o, length-take m (header k), header-length k)
+  length-in Len k m n p o =
+      let l : m ≤ 1 = leb-true m 1 (and-left (leb m 1) (leb n 255 && (eqb m 1 || eqb n 0)) o) in
+      omega (arith, length-append (header k) (take m (n ∷ [])), length-take m (n ∷ []), header-length k)
+  length-in Data k m n p o =
+      let r : inRange most n ≡ true = and-left (inRange most n) (ltb p n) o in
+      omega (
+        arith,
+        data-size most k n r small buf (omega (arith, range-high most n r)) (take p buf),
+        length-take p buf,
+        range-high most n r,
+        ltb-true p n (and-right (inRange most n) (ltb p n) o),
+      )
+  length-in Tail k m n p o =
+      let r : inRange most n ≡ true = and-left (inRange most n) (eqb p n) (and-right (leb m 3) (inRange most n && eqb p n) o) in
+      let fits : n ≤ length buf = omega (arith, range-high most n r) in
+      omega (
+        arith,
+        data-size most k n r small buf fits (take n buf ++ take m (tail k)),
+        tail-size most k n r small buf fits m (leb-true m 3 (and-left (leb m 3) (inRange most n && eqb p n) o)),
+      )
+
+  pub waits : (c : Scan) → inOrder most c ≡ true
+      → T (opens most (pendingOf c buf)) × (T (wholes most (pendingOf c buf)) → ⊥)
+  unfolding inOrder pendingOf
+  waits c o = waits-in (c .state) (c .kind) (c .matched) (c .len) (c .pos) o
+
+  pub pending-length : (c : Scan) → inOrder most c ≡ true → unfinishedAt c ≡ length (pendingOf c buf)
+  unfolding inOrder pendingOf
+  pending-length c o = length-in (c .state) (c .kind) (c .matched) (c .len) (c .pos) o

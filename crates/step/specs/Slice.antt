@@ -1,0 +1,33 @@
+-- What a slice of bytes does: their steps, one after the other, up to and with the first that ends a frame.
+--   Run                      what was scanned, and the buffer that it left
+--   runOf most c st buf bs   the run of the bytes bs from the scan c, the counters st and the buffer buf
+use mathlib.Core.List.{List, [], _∷_}
+use Prim.Native.Nat.{ℕ, suc}
+use Rattle.step.specs.Step.{stepOf, stored}
+use Rattle.scan.specs.declared.Scan.{Scan}
+use Rattle.scan.specs.declared.Stats.{Stats}
+use Rattle.scan.specs.declared.Ended.{Ended}
+use Rattle.scan.specs.declared.Ended.the-variants.{Frame, Nothing}
+use Rattle.scan.specs.declared.Stepped.{Stepped}
+use Rattle.scan.specs.declared.Scanned.{Scanned}
+
+pub record Run : Type 0 where
+  pub scanned : Scanned
+  pub buf : List ℕ
+
+abbrev pub runAt : Scan → Stats → Ended → ℕ → List ℕ → Run
+runAt c st e n buf = record { scanned = record { scan = c; stats = st; ended = e; taken = n }; buf = buf }
+
+-- one byte came before the run
+abbrev pub oneMore : Run → Run
+oneMore r = runAt (r .scanned .scan) (r .scanned .stats) (r .scanned .ended) (suc (r .scanned .taken)) (r .buf)
+
+-- the step r ended a frame, and nothing more is taken; or the others follow
+abbrev pub thenRun : Ended → Stepped → List ℕ → Run → Run
+thenRun (Frame k n) r buf others = runAt (r .scan) (r .stats) (r .ended) 1 buf
+thenRun Nothing r buf others = oneMore others
+
+unfoldable pub runOf : ℕ → Scan → Stats → List ℕ → List ℕ → Run
+runOf most c st buf [] = runAt c st Nothing 0 buf
+runOf most c st buf (b ∷ bs) = thenRun (stepOf most c st b .ended) (stepOf most c st b) (stored c buf b)
+    (runOf most (stepOf most c st b .scan) (stepOf most c st b .stats) (stored c buf b) bs)

@@ -1,0 +1,62 @@
+-- What one byte does to a scan in order, to the counters and to the buffer.
+--   stepOf most c st b the scan c and the counters st after the byte b, and whether it ended a frame
+--   stored c buf b     the buffer after it: a data byte is stored at the scan's position
+use mathlib.Core.List.{List}
+use mathlib.Core.Bool.{Bool, true, false}
+use Prim.Native.Nat.{ℕ, _+_, _*_}
+use lib.Dec.{ltb, eqb}
+use lib.ListN.{getD, set}
+use Rattle.wire.specs.Family.{header, tail}
+use Rattle.wire.specs.declared.Kind.{Kind}
+use Rattle.stream.specs.Scan.{inRange}
+use Rattle.scan.specs.Scan.{at, hunting}
+use Rattle.scan.specs.Start.{went, abandoned, startOf}
+use Rattle.scan.specs.declared.State.{State}
+use Rattle.scan.specs.declared.State.the-variants.{Header, Len, Data, Tail}
+use Rattle.scan.specs.declared.Scan.{Scan}
+use Rattle.scan.specs.declared.Stats.{Stats}
+use Rattle.scan.specs.declared.Ended.the-variants.{Frame}
+use Rattle.scan.specs.declared.Stepped.{Stepped}
+
+abbrev pub orElse : Bool → Stepped → Stepped → Stepped
+orElse true r other = r
+orElse false r other = other
+
+-- the header's byte m came, or another
+abbrev pub stepHeader : Kind → ℕ → Stats → ℕ → Stepped
+stepHeader k m st b = orElse (eqb m 0) (startOf st b) (orElse (eqb b (getD (header k) m 0))
+    (orElse (eqb m 3) (went (at Len k 0 0 0) st) (went (at Header k (m + 1) 0 0) st))
+    (startOf (abandoned st m) b))
+
+-- the first length byte; or the second, which makes a length in range, or is tried as a new start
+abbrev pub stepLen : ℕ → Kind → ℕ → ℕ → Stats → ℕ → Stepped
+stepLen most k m n st b = orElse (eqb m 0) (went (at Len k 1 b 0) st) (orElse (inRange most (n + 256 * b))
+    (went (at Data k 0 (n + 256 * b) 0) st)
+    (startOf (abandoned st 5) b))
+
+abbrev pub stepData : Kind → ℕ → ℕ → Stats → Stepped
+stepData k n p st = orElse (ltb (p + 1) n) (went (at Data k 0 n (p + 1)) st) (went (at Tail k 0 n n) st)
+
+-- the tail's byte m came, and may have ended the frame; or another, which alone is tried as a new start
+abbrev pub stepTail : Kind → ℕ → ℕ → Stats → ℕ → Stepped
+stepTail k m n st b = orElse (eqb b (getD (tail k) m 0))
+    (orElse (eqb m 3) (record { scan = hunting; stats = st; ended = Frame k n }) (went (at Tail k (m + 1) n n) st))
+    (startOf (abandoned st (6 + n + m)) b)
+
+abbrev pub stepIn : ℕ → State → Kind → ℕ → ℕ → ℕ → Stats → ℕ → Stepped
+stepIn most Header k m n p st b = stepHeader k m st b
+stepIn most Len k m n p st b = stepLen most k m n st b
+stepIn most Data k m n p st b = stepData k n p st
+stepIn most Tail k m n p st b = stepTail k m n st b
+
+unfoldable pub stepOf : ℕ → Scan → Stats → ℕ → Stepped
+stepOf most c st b = stepIn most (c .state) (c .kind) (c .matched) (c .len) (c .pos) st b
+
+abbrev pub storedIn : State → ℕ → List ℕ → ℕ → List ℕ
+storedIn Header p buf b = buf
+storedIn Len p buf b = buf
+storedIn Data p buf b = set buf p b
+storedIn Tail p buf b = buf
+
+unfoldable pub stored : Scan → List ℕ → ℕ → List ℕ
+stored c buf b = storedIn (c .state) (c .pos) buf b
