@@ -27,8 +27,10 @@ use Rattle.step.specs.Slice.{runOf}
 use Rattle.parser.specs.Feed.{fresh, bufOf, movedOf, sliceBufOf, sliceMovedOf, feedOf, feedSliceOf, unfinishedOf}
 use Rattle.parser.specs.Claims.{did, left}
 use Rattle.cursor.specs.Written.{answerOf, bufferAfter, written}
-use Rattle.command.specs.Command.{commandFrame, dataWith, unsupported}
-use Rattle.command.specs.Read.{commandOf, asks, isFrame, numberIn, guess, guessIn, ifEncodesTo}
+use Rattle.command.specs.Command.{commandFrame, unsupported}
+use Rattle.request.specs.Request.{dataWith}
+use Rattle.command.specs.Read.{commandOf, guess, guessIn, ifEncodesTo}
+use Rattle.request.specs.Asking.{asks, isFrame, numberIn}
 use Rattle.cases.specs.Row.{Numbers, addedUp, countedBy, Stream, StreamHolds, Run, RunHolds}
 use Rattle.cases.specs.Row.{CommandRow, encodes, parses, CommandHolds}
 use Rattle.cases.specs.Streams.{streams}

@@ -9,7 +9,7 @@ use Prim.Native.Nat.{ℕ}
 use lib.ListN.{replicate}
 use Rattle.refusal.specs.declared.Error.the-variants.{Unsupported, BufferTooSmall}
 use Rattle.cursor.specs.declared.WriteResult.the-variants as Write
-use Rattle.command.specs.declared.Gate.the-variants.{Index}
+use Rattle.setting.specs.declared.Gate.the-variants.{Index}
 use Rattle.command.specs.declared.Command.{Command}
 use Rattle.command.specs.declared.Command.the-variants.{EnableConfig, SetSensitivity}
 use Rattle.command.specs.declared.CommandResult.the-variants as Read

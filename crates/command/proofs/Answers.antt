@@ -11,11 +11,12 @@ use Rattle.cursor.specs.Written.{written}
 use Rattle.cursor.specs.declared.WriteResult.{WriteResult}
 use Rattle.cursor.proofs.Writers.{Wrote, wrote-whole}
 use Rattle.command.specs.Command.{commandFrame, unsupported}
-use Rattle.command.specs.Read.{Reads, Asks, asks, commandOf, ReadCauses, ReadBack, WrittenAgain}
+use Rattle.command.specs.Read.{Reads, commandOf, ReadCauses, ReadBack, WrittenAgain}
+use Rattle.request.specs.Asking.{Asks, asks}
 use Rattle.command.specs.declared.Command.{Command}
 use Rattle.command.specs.declared.CommandResult.{CommandResult}
 use Rattle.command.specs.declared.CommandResult.the-variants.{Ok, Err}
-use Rattle.command.proofs.Asking.{asks-sound, asks-complete}
+use Rattle.request.proofs.Asking.{asks-sound, asks-complete}
 use Rattle.command.proofs.Reading.{laid}
 use Rattle.command.proofs.RoundTrip.{frame-asks, read-complete, read-sound, read-unique}
 use Rattle.command.proofs.RoundTrip.{Way, invalid, unknown, found, way}

@@ -11,10 +11,11 @@ use Rattle.cursor.specs.Written.{answerOf, bufferAfter, WriteCauses}
 use Rattle.cursor.specs.declared.WriteResult.{WriteResult}
 use Rattle.cursor.specs.declared.WriteResult.the-variants.{Err}
 use Rattle.cursor.proofs.Writers.{Wrote, wrote-refused, shown}
-use Rattle.command.specs.Command.{wordOf, valueOf, frameWith, commandFrame, encodable, unsupported}
+use Rattle.command.specs.Command.{wordOf, valueOf, commandFrame, encodable, unsupported}
+use Rattle.request.specs.Request.{frameWith}
 use Rattle.command.specs.Read.{ReadBack}
 use Rattle.command.specs.declared.Command.{Command}
-use Rattle.command.specs.declared.Value.{Value}
+use Rattle.request.specs.declared.Value.{Value}
 use Rattle.command.proofs.Answers.{read-back}
 
 module _ (c : Command) (out : List ℕ) where

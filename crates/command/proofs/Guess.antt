@@ -9,14 +9,16 @@ use borrow.Author.Tests.{leb-true, ne-eqb}
 use Rattle.wire.specs.Number.{little, le16At}
 use Rattle.wire.specs.Family.{framed}
 use Rattle.wire.proofs.Equality.{both-true}
-use Rattle.command.specs.Setting.{gateValue, gateKnown, farthest, sensitivity}
-use Rattle.command.specs.Command.{dataWith, commandFrame, encodable}
-use Rattle.command.specs.Read.{numberIn, gateFor, baudFor, guess, guessIn}
-use Rattle.command.specs.declared.Gate.{Gate}
-use Rattle.command.specs.declared.Gate.the-variants.{Index, All}
-use Rattle.command.specs.declared.Baud.{Baud}
-use Rattle.command.specs.declared.Baud.the-variants.{B9600, B19200, B38400, B57600}
-use Rattle.command.specs.declared.Baud.the-variants.{B115200, B230400, B256000, B460800}
+use Rattle.setting.specs.Setting.{gateValue, gateKnown, farthest, sensitivity}
+use Rattle.request.specs.Request.{dataWith}
+use Rattle.command.specs.Command.{commandFrame, encodable}
+use Rattle.request.specs.Asking.{numberIn}
+use Rattle.command.specs.Read.{gateFor, baudFor, guess, guessIn}
+use Rattle.setting.specs.declared.Gate.{Gate}
+use Rattle.setting.specs.declared.Gate.the-variants.{Index, All}
+use Rattle.setting.specs.declared.Baud.{Baud}
+use Rattle.setting.specs.declared.Baud.the-variants.{B9600, B19200, B38400, B57600}
+use Rattle.setting.specs.declared.Baud.the-variants.{B115200, B230400, B256000, B460800}
 use Rattle.command.specs.declared.Command.{Command}
 use Rattle.command.specs.declared.Command.the-variants.{EnableConfig, EndConfig, SetMaxGates, ReadParameters}
 use Rattle.command.specs.declared.Command.the-variants.{EngineeringMode, SetSensitivity, ReadFirmware, SetBaud}

@@ -1,10 +1,6 @@
 -- Laws about the definitions, which the proofs of this crate and of the crates above cite.
--- The frames of a command, by the kind of its value.
-pub mod Makers
--- The reader's test of a frame.
-pub mod Framing
--- Frames that ask.
-pub mod Asking
+-- The frames of commands: how long they are, and when they are encodable.
+pub mod Frames
 -- The guess for a command's frame is the command.
 pub mod Guess
 -- What the reader answers.

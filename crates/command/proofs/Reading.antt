@@ -15,10 +15,11 @@ use Rattle.cursor.specs.declared.WriteResult.the-variants as Write
 use Rattle.cursor.proofs.Chain.{written-front, written-length}
 use Rattle.cursor.proofs.Writers.{Wrote, wrote-whole, wrote-all}
 use Rattle.command.specs.Command.{commandFrame, encodable, unsupported}
-use Rattle.command.specs.Read.{asks, guessIn, ifEncodesTo, commandOf}
+use Rattle.request.specs.Asking.{asks}
+use Rattle.command.specs.Read.{guessIn, ifEncodesTo, commandOf}
 use Rattle.command.specs.declared.Command.{Command}
 use Rattle.command.specs.declared.CommandResult.the-variants.{Ok, Err}
-use Rattle.command.proofs.Makers.{frame-short}
+use Rattle.command.proofs.Frames.{frame-short}
 
 -- A command that does not encode to the bytes, and one that does.
 module _ (s : List ℕ) (c : Command) where

@@ -10,16 +10,18 @@ use Rattle.wire.specs.Equal.{sameBytes}
 use Rattle.wire.specs.Number.{little}
 use Rattle.refusal.specs.declared.Error.the-variants.{InvalidFormat, UnknownCommand}
 use Rattle.wire.proofs.Equality.{same-sound, same-complete}
-use Rattle.command.specs.Command.{wordOf, valueOf, dataWith, commandFrame, encodable}
-use Rattle.command.specs.Read.{Reads, Asks, ackBit, asks, guessIn, ifEncodesTo, commandOf}
+use Rattle.command.specs.Command.{wordOf, valueOf, commandFrame, encodable}
+use Rattle.request.specs.Request.{dataWith}
+use Rattle.command.specs.Read.{Reads, guessIn, ifEncodesTo, commandOf}
+use Rattle.request.specs.Asking.{Asks, ackBit, asks}
 use Rattle.command.specs.declared.Command.{Command}
 use Rattle.command.specs.declared.Command.the-variants.{EnableConfig, EndConfig, SetMaxGates, ReadParameters}
 use Rattle.command.specs.declared.Command.the-variants.{EngineeringMode, SetSensitivity, ReadFirmware, SetBaud}
 use Rattle.command.specs.declared.Command.the-variants.{FactoryReset, Restart, Bluetooth, ReadMac}
 use Rattle.command.specs.declared.CommandResult.the-variants.{Ok, Err}
-use Rattle.command.proofs.Asking.{asks-complete}
+use Rattle.request.proofs.Asking.{asks-complete}
 use Rattle.command.proofs.Guess.{guess-written}
-use Rattle.command.proofs.Makers.{data-framable, data-worded}
+use Rattle.request.proofs.Makers.{data-framable, data-worded}
 use Rattle.command.proofs.Reading.{unencodable, unlike-frame, like-frame, read-invalid, read-asked}
 
 -- No command's word has the ACK bit.

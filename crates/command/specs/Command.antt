@@ -1,26 +1,21 @@
 -- Commands: "a frame is header, length, word, value, tail: 12, 14 or 30 bytes", by the table of document 01's point 6.
 --   wordOf c         the command's word
 --   valueOf c        what stands behind it: nothing, a two-byte number, or the values of three records
---   recordBytes k v  a record: "number (two bytes) and value (four)"
---   valueBytes v     the bytes of a value, the records numbered 0, 1, 2
---   dataWith w v     a word, then a value: the data of a frame; and frameWith w v, the frame
 --   commandFrame c   the command's frame
 --   encodable c      whether the module takes the command's values: gates 0 to 8, sensitivities 0 to 100
 --   unsupported c    refusal 2, unless it does
-use mathlib.Core.List.{List, [], _++_}
+use mathlib.Core.List.{List}
 use mathlib.Core.Bool.{Bool, true, false, _&&_}
 use mathlib.Core.Option.{Option}
 use Prim.Native.Nat.{ℕ}
 use lib.Dec.{leb}
-use Rattle.wire.specs.Number.{leBytes}
-use Rattle.wire.specs.Family.{framed}
-use Rattle.wire.specs.declared.Kind.the-variants as Family
 use Rattle.refusal.specs.declared.Error.{Error}
 use Rattle.refusal.specs.declared.Error.the-variants.{Unsupported}
 use Rattle.cursor.specs.Written.{unless}
-use Rattle.command.specs.Setting.{gateValue, gateKnown, farthest, sensitivity, indexOf}
-use Rattle.command.specs.declared.Value.{Value}
-use Rattle.command.specs.declared.Value.the-variants as Of
+use Rattle.setting.specs.Setting.{gateValue, gateKnown, farthest, sensitivity, indexOf}
+use Rattle.request.specs.Request.{frameWith}
+use Rattle.request.specs.declared.Value.{Value}
+use Rattle.request.specs.declared.Value.the-variants as Of
 use Rattle.command.specs.declared.Command.{Command}
 use Rattle.command.specs.declared.Command.the-variants.{EnableConfig, EndConfig, SetMaxGates, ReadParameters}
 use Rattle.command.specs.declared.Command.the-variants.{EngineeringMode, SetSensitivity, ReadFirmware, SetBaud}
@@ -55,20 +50,6 @@ valueOf Restart = Of.None
 valueOf (Bluetooth true) = Of.Number 1
 valueOf (Bluetooth false) = Of.Number 0
 valueOf ReadMac = Of.Number 1
-
-abbrev pub recordBytes : ℕ → ℕ → List ℕ
-recordBytes k v = leBytes 2 k ++ leBytes 4 v
-
-abbrev pub valueBytes : Value → List ℕ
-valueBytes Of.None = []
-valueBytes (Of.Number v) = leBytes 2 v
-valueBytes (Of.Records a b c) = recordBytes 0 a ++ (recordBytes 1 b ++ recordBytes 2 c)
-
-unfoldable pub dataWith : ℕ → Value → List ℕ
-dataWith w v = leBytes 2 w ++ valueBytes v
-
-abbrev pub frameWith : ℕ → Value → List ℕ
-frameWith w v = framed Family.Command (dataWith w v)
 
 abbrev pub commandFrame : Command → List ℕ
 commandFrame c = frameWith (wordOf c) (valueOf c)

@@ -1,12 +1,6 @@
 -- Reading a command frame: "the command that encodes to these bytes".
 --   Reads s c         the command c encodes to the bytes s
---   ackBit w          the ACK bit of a word, 0100
---   Asks s            s is a frame of the command family, and its data begin with a word whose ACK bit is clear
 --   commandOf s       what the reader answers for s, through the only command that may encode to s:
---     middle s          what stands between the length and the tail
---     isFrame s         whether s is the frame of the command family around its middle, of data that a length can say
---     numberIn s i      the two-byte number in s at place i, 0 where the bytes are too few
---     asks s            whether Asks s
 --     gateFor v, baudFor i   the gate with the value v, the rate with the index i; any where there is none
 --     guess w n a b c   the only command that may have the word w, and the number n for its value or a, b, c in its
 --                       records; any where none may
@@ -19,29 +13,25 @@
 use mathlib.Core.Path.{_≡_}
 use mathlib.Core.Logic.{_↔_, _⊎_}
 use mathlib.Core.List.{List, [], _∷_}
-use mathlib.Core.Bool.{Bool, true, false, cond, _&&_}
-use Prim.Native.Nat.{ℕ, _-_, _/_, _%_, _≤_}
-use lib.Dec.{eqb, leb}
-use lib.ListN.{length, take, drop}
+use mathlib.Core.Bool.{true, false, cond, _&&_}
+use Prim.Native.Nat.{ℕ, _%_, _≤_}
+use lib.Dec.{eqb}
+use lib.ListN.{length, take}
 use Rattle.wire.specs.Equal.{sameBytes}
-use Rattle.wire.specs.Number.{little, le16At}
-use Rattle.wire.specs.Family.{framed}
 use Rattle.refusal.specs.Refusal.{numberOf}
 use Rattle.refusal.specs.declared.Error.the-variants.{InvalidFormat, UnknownCommand}
-use Rattle.wire.specs.declared.Kind.the-variants as Family
-use Rattle.wire.specs.declared.MaybeU16.{MaybeU16}
-use Rattle.wire.specs.declared.MaybeU16.the-variants as U16
-use Rattle.cursor.specs.Written.{framable, written, answerOf, bufferAfter}
+use Rattle.cursor.specs.Written.{written, answerOf, bufferAfter}
 use Rattle.cursor.specs.declared.WriteResult.{WriteResult}
 use Rattle.cursor.specs.declared.WriteResult.the-variants as Write
-use Rattle.command.specs.Setting.{baudOf}
+use Rattle.setting.specs.Setting.{baudOf}
+use Rattle.request.specs.Asking.{Asks, numberIn, asks}
 use Rattle.command.specs.Command.{commandFrame, encodable, unsupported}
-use Rattle.command.specs.declared.Gate.{Gate}
-use Rattle.command.specs.declared.Gate.the-variants.{Index, All}
-use Rattle.command.specs.declared.Baud.{Baud}
-use Rattle.command.specs.declared.Baud.the-variants.{B9600}
-use Rattle.command.specs.declared.MaybeBaud.{MaybeBaud}
-use Rattle.command.specs.declared.MaybeBaud.the-variants as Rate
+use Rattle.setting.specs.declared.Gate.{Gate}
+use Rattle.setting.specs.declared.Gate.the-variants.{Index, All}
+use Rattle.setting.specs.declared.Baud.{Baud}
+use Rattle.setting.specs.declared.Baud.the-variants.{B9600}
+use Rattle.setting.specs.declared.MaybeBaud.{MaybeBaud}
+use Rattle.setting.specs.declared.MaybeBaud.the-variants as Rate
 use Rattle.command.specs.declared.Command.{Command}
 use Rattle.command.specs.declared.Command.the-variants.{EnableConfig, EndConfig, SetMaxGates, ReadParameters}
 use Rattle.command.specs.declared.Command.the-variants.{EngineeringMode, SetSensitivity, ReadFirmware, SetBaud}
@@ -51,32 +41,6 @@ use Rattle.command.specs.declared.CommandResult.the-variants.{Ok, Err}
 
 abbrev pub Reads : List ℕ → Command → Type 0
 Reads s c = (encodable c ≡ true) × (s ≡ commandFrame c)
-
-abbrev pub ackBit : ℕ → ℕ
-ackBit w = w / 256 % 2
-
-pub record Asks (s : List ℕ) : Type 0 where
-  pub «data» : List ℕ
-  pub whole : s ≡ framed Family.Command «data»
-  pub sayable : length «data» ≤ 65535
-  pub worded : 2 ≤ length «data»
-  pub asking : ackBit (little (take 2 «data»)) ≡ 0
-
-abbrev pub middle : List ℕ → List ℕ
-middle s = take (length s - 10) (drop 6 s)
-
-unfoldable pub isFrame : List ℕ → Bool
-isFrame s = sameBytes s (framed Family.Command (middle s)) && framable (middle s)
-
-abbrev pub orZero : MaybeU16 → ℕ
-orZero (U16.Some v) = v
-orZero U16.None = 0
-
-unfoldable pub numberIn : List ℕ → ℕ → ℕ
-numberIn s i = orZero (le16At s i)
-
-unfoldable pub asks : List ℕ → Bool
-asks s = isFrame s && (leb 12 (length s) && eqb (ackBit (numberIn s 6)) 0)
 
 unfoldable pub gateFor : ℕ → Gate
 gateFor v = cond (eqb v 0xFFFF) All (Index (v % 256))

@@ -1,19 +1,12 @@
-// Reading a command frame: its framing, and the one command that may encode to it.
-use super::Baud;
+// The one command that may encode to a frame.
 use super::Command;
-use super::Gate;
-use super::MaybeBaud;
-use cursor::MAX_LENGTH;
-use cursor::u16_bytes;
-use wire::ACK_BIT;
-use wire::FRAMING;
-use wire::Kind;
-use wire::MaybeU16;
-use wire::le16;
-use wire::same;
+use request::number_in;
+use setting::Baud;
+use setting::Gate;
+use setting::MaybeBaud;
 use wire::word;
 ghost use mathlib.Core.Path.{_≡_};
-ghost use Rattle.command.specs.Read.{isFrame, asks, numberIn, gateFor, baudFor, guess, guessIn};
+ghost use Rattle.command.specs.Read.{gateFor, baudFor, guess, guessIn};
 
 // Where the word begins in a frame, where a two-byte value does, and where the values of the three records do.
 const WORD: usize = 6;
@@ -25,53 +18,6 @@ const FIRST: usize = 10;
 const SECOND: usize = 16;
 
 const THIRD: usize = 22;
-
-// Whether the bytes are exactly one frame of the command family, with data that a length can say.
-fn is_frame(bytes: &[u8]) -> bool
-    ensures tested { λ r. ⌜ r ≡ isFrame (now (bytes .entry)) ⌝ }
-{
-    if bytes.len() < FRAMING {
-        return false;
-    }
-    let n = bytes.len() - FRAMING;
-    if MAX_LENGTH < n {
-        return false;
-    }
-    let header = Kind::COMMAND_HEADER;
-    if !same(&bytes[..4], &header) {
-        return false;
-    }
-    let length = u16_bytes(n as u16);
-    if !same(&bytes[4..6], &length) {
-        return false;
-    }
-    let tail = Kind::COMMAND_TAIL;
-    let end = 6 + n;
-    same(&bytes[end..], &tail)
-}
-
-// The two-byte number at `at`, or 0 where the bytes are too few.
-fn number_in(bytes: &[u8], at: usize) -> u16
-    ensures read { λ r. ⌜ r ≡ numberIn (now (bytes .entry)) at ⌝ }
-{
-    let MaybeU16::Some(v) = le16(bytes, at) else {
-        return 0;
-    };
-    v
-}
-
-// Whether the bytes are a frame that asks something of the module: a word is there, and its ACK bit is clear.
-pub fn asks(bytes: &[u8]) -> bool
-    ensures tested { λ r. ⌜ r ≡ asks (now (bytes .entry)) ⌝ }
-{
-    if !is_frame(bytes) {
-        return false;
-    }
-    if bytes.len() < FRAMING + 2 {
-        return false;
-    }
-    number_in(bytes, WORD) / ACK_BIT % 2 == 0
-}
 
 // The gate with the value, of which only the lowest byte counts where it is not the value for all.
 fn gate_for(value: u16) -> Gate

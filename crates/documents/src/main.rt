@@ -1,11 +1,16 @@
-// Holds the readers against the documents: it reads the bytes that document 01 and the maker's documents print, and
-// writes a line for each. The file stdout beside src/ has what the documents say of them, written by hand.
+// Holds the readers and the encoder against the documents: it reads the bytes that document 01 and the maker's documents
+// print, writes the commands that they print, and puts out a line for each. The file stdout beside src/ has what the
+// documents say of them, written by hand.
+use command::Command;
 use frame::FrameKind;
+use setting::Baud;
+use setting::Gate;
 use wire::word;
 
 mod acks;
 mod published;
 mod reports;
+mod sent;
 mod text;
 mod tried;
 
@@ -78,9 +83,52 @@ fn published_module() {
     acks::mac(b"ReadMac", &published::READ_MAC);
 }
 
+// The published commands that configure, in the documents' order.
+fn sent_settings() {
+    sent::sent(b"EnableConfig", Command::EnableConfig);
+    sent::sent(b"EndConfig", Command::EndConfig);
+    sent::sent(
+        b"SetMaxGates 8, 8, 5 s",
+        Command::SetMaxGates {
+            moving: 8,
+            stationary: 8,
+            no_one_secs: 5,
+        },
+    );
+    sent::sent(b"ReadParameters", Command::ReadParameters);
+    sent::sent(b"EngineeringMode on", Command::EngineeringMode(true));
+    sent::sent(b"EngineeringMode off", Command::EngineeringMode(false));
+    sensitivity(b"SetSensitivity gate 3, 40, 40", Gate::Index(3));
+    sensitivity(b"SetSensitivity all, 40, 40", Gate::All);
+}
+
+// A sensitivity of 40 for moving and stationary targets.
+fn sensitivity(label: &[u8], gate: Gate) {
+    sent::sent(
+        label,
+        Command::SetSensitivity {
+            gate,
+            moving: 40,
+            stationary: 40,
+        },
+    );
+}
+
+// Those about the module itself.
+fn sent_module() {
+    sent::sent(b"ReadFirmware", Command::ReadFirmware);
+    sent::sent(b"SetBaud 256000", Command::SetBaud(Baud::B256000));
+    sent::sent(b"FactoryReset", Command::FactoryReset);
+    sent::sent(b"Restart", Command::Restart);
+    sent::sent(b"Bluetooth on", Command::Bluetooth(true));
+    sent::sent(b"ReadMac", Command::ReadMac);
+}
+
 fn main() {
     tried_rows();
     published_reports();
     published_settings();
     published_module();
+    sent_settings();
+    sent_module();
 }

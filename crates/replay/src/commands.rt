@@ -8,13 +8,13 @@ use crate::line::bytes;
 use crate::line::none;
 use crate::line::number;
 use crate::line::numbers;
-use command::Baud;
 use command::Command;
 use command::CommandResult;
-use command::Gate;
-use command::MaybeBaud;
 use cursor::WriteResult;
 use cursor::u16_bytes;
+use setting::Baud;
+use setting::Gate;
+use setting::MaybeBaud;
 use wire::least;
 
 // Where the command begins in an argument of op 6.

@@ -1,7 +1,7 @@
 -- `command::Command::encodable` meets its contract: each arm is a line of `encodable`. Assumes nothing.
 use mathlib.Core.Path.{sym, _∙_}
 use native.Mathlib.Omega.{arith}
-use Rattle.command.proofs.Makers.{gates-encodable}
+use Rattle.command.proofs.Frames.{gates-encodable}
 use borrow.Author.Needs.{needs}
 use Rattle.command.proofs.Command.encodable.Statement.{statement}
 use Rattle.command.proofs.Command.encodable.Tie as tie

@@ -1,6 +1,7 @@
 -- `command::Command::encoded_len` meets its contract. Assumes nothing.
 use native.Mathlib.Omega.{arith}
-use Rattle.command.proofs.Makers.{value-short, frame-size}
+use Rattle.request.proofs.Makers.{value-short}
+use Rattle.command.proofs.Frames.{frame-size}
 use borrow.Author.Needs.{needs}
 use Rattle.command.proofs.Command.encoded_len.Statement.{statement}
 use Rattle.command.proofs.Command.encoded_len.Tie as tie

@@ -1,0 +1,27 @@
+-- The frames of commands: how long they are, and when they are encodable.
+use mathlib.Core.Path.{_≡_, _∙_}
+use mathlib.Core.Bool.{_&&_}
+use Prim.Native.Nat.{ℕ, _+_, _≤_}
+use native.Mathlib.Omega.{arith}
+use lib.ListN.{length}
+use borrow.Author.Tests.{le-leb}
+use Rattle.wire.specs.declared.Kind.the-variants as Family
+use Rattle.cursor.proofs.Frames.{frame-length}
+use Rattle.setting.specs.Setting.{farthest}
+use Rattle.request.specs.Request.{valueBytes, dataWith}
+use Rattle.request.proofs.Makers.{value-short}
+use Rattle.command.specs.Command.{wordOf, valueOf, commandFrame, encodable}
+use Rattle.command.specs.declared.Command.{Command}
+use Rattle.command.specs.declared.Command.the-variants.{SetMaxGates}
+
+-- Twelve bytes more than its value.
+pub frame-size : (c : Command) → length (commandFrame c) ≡ 12 + length (valueBytes (valueOf c))
+unfolding dataWith
+frame-size c = frame-length Family.Command (dataWith (wordOf c) (valueOf c)) ∙ (omega arith)
+
+pub frame-short : (c : Command) → length (commandFrame c) ≤ 30
+frame-short c = omega (arith, frame-size c, value-short (valueOf c))
+
+-- The seconds' limit is their type's.
+pub gates-encodable : (m s n : ℕ) → n ≤ 65535 → encodable (SetMaxGates m s n) ≡ (farthest m && farthest s)
+gates-encodable m s n h = rw (le-leb n 65535 h)

@@ -1,0 +1,20 @@
+// Rows about commands. A row is a line with the bytes written and the buffer that the encoder left, each of whose bytes
+// was EE before.
+use crate::text::bytes;
+use crate::text::end;
+use crate::text::numbers;
+use crate::text::text;
+use command::Command;
+use cursor::WriteResult;
+
+// The command, written into a buffer that takes the longest frame.
+pub fn sent(label: &[u8], command: Command) {
+    text(label);
+    let mut out: [u8; 30] = [0xEE; 30];
+    match command.encode(&mut out) {
+        WriteResult::Ok(n) => numbers(b", sent", &[n as u64]),
+        WriteResult::Err(e) => numbers(b", refused", &[e.number() as u64]),
+    }
+    bytes(b":", &out);
+    end();
+}

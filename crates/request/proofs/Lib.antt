@@ -1,0 +1,7 @@
+-- Laws about the definitions, which the proofs of this crate and of the crates above cite.
+-- The data of a command, by the kind of its value.
+pub mod Makers
+-- The reader's test of a frame.
+pub mod Framing
+-- Frames that ask.
+pub mod Asking
