@@ -23,8 +23,8 @@ const COMMAND_AT: usize = 3;
 // Bytes of an argument of op 6.
 const ENCODE_LEN: usize = COMMAND_AT + 6;
 
-// The longest buffer of op 6.
-const LONGEST: usize = 65_535;
+// The longest buffer of a writer.
+pub const LONGEST: usize = 65_535;
 
 // A command, if the six bytes are one.
 enum MaybeCommand {
@@ -75,7 +75,7 @@ fn encoded_in(out: &mut Text, taken: usize, command: Command, buffer: &mut [u8])
 }
 
 // Puts a writer's answer: the refusal, and the bytes written or needed.
-fn written(out: &mut Text, taken: usize, answer: WriteResult) -> usize {
+pub fn written(out: &mut Text, taken: usize, answer: WriteResult) -> usize {
     match answer {
         WriteResult::Ok(count) => numbers(out, taken, &[0, count as u64]),
         WriteResult::Err(e) => numbers(out, taken, &[e.number() as u64, e.needed() as u64]),

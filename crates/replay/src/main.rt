@@ -10,6 +10,7 @@ mod readers;
 mod replies;
 mod scripts;
 mod values;
+mod writers;
 
 use line::Text;
 
