@@ -1,7 +1,7 @@
 -- The rows hold. What a row should say is computed from its bytes, its calls or its command, once for each table, and
 -- compared with what it says; that the scanner's pieces are a division is a law of the crate `framing`.
 use mathlib.Core.Path.{_≡_, refl, subst, ap}
-use mathlib.Core.List.{List, map}
+use mathlib.Core.List.{List, _++_, map}
 use lib.ListN.{length}
 use Rattle.wire.specs.Counter.{bumped}
 use Rattle.wire.specs.Equal.{sameBytes}
@@ -32,11 +32,12 @@ use Rattle.request.specs.Request.{dataWith}
 use Rattle.command.specs.Read.{commandOf, guess, guessIn, ifEncodesTo}
 use Rattle.request.specs.Asking.{asks, isFrame, numberIn}
 use Rattle.cases.specs.Row.{Numbers, addedUp, countedBy, Stream, StreamHolds, Run, RunHolds}
-use Rattle.cases.specs.Row.{CommandRow, encodes, parses, CommandHolds}
+use Rattle.cases.specs.Row.{CommandRow, encodes, parses, CommandHolds, stream, run, command, Holds}
 use Rattle.cases.specs.Streams.{streams}
 use Rattle.cases.specs.Runs.{runs}
 use Rattle.cases.specs.Commands.{commands}
-use Rattle.cases.proofs.Agree.{agree, every-map}
+use Rattle.cases.specs.Claims.{AllHold}
+use Rattle.cases.proofs.Agree.{agree, every-map, every-of, every-append}
 
 -- A stream's pieces and numbers, as computed and as the row says.
 record Found : Type 0 where
@@ -67,7 +68,7 @@ stream-holds r e = record {
   counted = ap (λ (x : Found). x .counted) e;
 }
 
-pub streams-hold : Every StreamHolds streams
+streams-hold : Every StreamHolds streams
 streams-hold = every-map stream-holds streams (agree found said streams streams-computed)
 
 -- A run's history and numbers, as computed and as the row says.
@@ -89,7 +90,7 @@ runs-computed = refl
 run-holds : (r : Run) → ran r ≡ told r → RunHolds r
 run-holds r e = record { done = ap (λ (x : Ran). x .history) e; counted = ap (λ (x : Ran). x .numbers) e }
 
-pub runs-hold : Every RunHolds runs
+runs-hold : Every RunHolds runs
 runs-hold = every-map run-holds runs (agree ran told runs runs-computed)
 
 -- A command's row with its answer and its buffer as computed, and as it stands.
@@ -110,5 +111,13 @@ command-holds : (r : CommandRow) → done r ≡ stated r → CommandHolds r
 command-holds (encodes c before answer after) e = (cc, cc)
 command-holds (parses s answer) e = cc
 
-pub commands-hold : Every CommandHolds commands
+commands-hold : Every CommandHolds commands
 commands-hold = every-map command-holds commands (agree done stated commands commands-computed)
+
+-- The table is made of the three.
+pub all-hold : AllHold
+all-hold =
+    every-append Holds (map stream streams) (map run runs ++ map command commands)
+    (every-of Holds stream (λ r h. h) streams streams-hold)
+    (every-append Holds (map run runs) (map command commands) (every-of Holds run (λ r h. h) runs runs-hold)
+    (every-of Holds command (λ r h. h) commands commands-hold))

@@ -1,12 +1,15 @@
--- The theorem: every row of every table holds. src/lib.rt pins it.
---   AllHold   a field for each table
+-- The theorem: every row of the table holds. src/lib.rt pins it.
+--   table     document 01's streams, runs of calls, and its commands
+--   AllHold   each of its rows holds
+use mathlib.Core.List.{List, _++_, map}
 use Rattle.framing.specs.Bytes.{Every}
-use Rattle.cases.specs.Row.{StreamHolds, RunHolds, CommandHolds}
+use Rattle.cases.specs.Row.{Row, stream, run, command, Holds}
 use Rattle.cases.specs.Streams.{streams}
 use Rattle.cases.specs.Runs.{runs}
 use Rattle.cases.specs.Commands.{commands}
 
-pub record AllHold : Type 0 where
-  pub of-streams : Every StreamHolds streams
-  pub of-runs : Every RunHolds runs
-  pub of-commands : Every CommandHolds commands
+abbrev pub table : List Row
+table = map stream streams ++ (map run runs ++ map command commands)
+
+abbrev pub AllHold : Type 0
+AllHold = Every Holds table

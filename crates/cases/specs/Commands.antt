@@ -1,5 +1,6 @@
 -- The command rows of document 01, "Bytes to try". Buffers are full of 55 before, so that what stays is seen.
 --   enableFrame   "`EnableConfig` writes FD FC FB FA 04 00 FF 00 01 00 04 03 02 01"
+--   endFrame      the frame of `EndConfig`, which has no value
 --   hundredFrame  the frame of `setting 100 100`: "Three records, number 0, 1, 2 (two bytes) and value (four)"
 --   buffer n      a buffer of n bytes
 --   setting m s   the `SetSensitivity` of gate 3 to m and s
@@ -11,12 +12,15 @@ use Rattle.refusal.specs.declared.Error.the-variants.{Unsupported, BufferTooSma
 use Rattle.cursor.specs.declared.WriteResult.the-variants as Write
 use Rattle.setting.specs.declared.Gate.the-variants.{Index}
 use Rattle.command.specs.declared.Command.{Command}
-use Rattle.command.specs.declared.Command.the-variants.{EnableConfig, SetSensitivity}
+use Rattle.command.specs.declared.Command.the-variants.{EnableConfig, EndConfig, SetSensitivity}
 use Rattle.command.specs.declared.CommandResult.the-variants as Read
 use Rattle.cases.specs.Row.{CommandRow, encodes, parses}
 
 abbrev pub enableFrame : List ℕ
 enableFrame = 0xFD ∷ 0xFC ∷ 0xFB ∷ 0xFA ∷ 0x04 ∷ 0x00 ∷ 0xFF ∷ 0x00 ∷ 0x01 ∷ 0x00 ∷ 0x04 ∷ 0x03 ∷ 0x02 ∷ 0x01 ∷ []
+
+abbrev pub endFrame : List ℕ
+endFrame = 0xFD ∷ 0xFC ∷ 0xFB ∷ 0xFA ∷ 0x02 ∷ 0x00 ∷ 0xFE ∷ 0x00 ∷ 0x04 ∷ 0x03 ∷ 0x02 ∷ 0x01 ∷ []
 
 abbrev pub hundredFrame : List ℕ
 hundredFrame = 0xFD ∷ 0xFC ∷ 0xFB ∷ 0xFA ∷ 0x14 ∷ 0x00 ∷ 0x64 ∷ 0x00 ∷ 0x00 ∷ 0x00 ∷ 0x03 ∷ 0x00 ∷ 0x00 ∷ 0x00 ∷ 0x01
@@ -43,6 +47,8 @@ commands =
     ∷ encodes (setting 100 101) [] (Write.Err Unsupported) []
     -- and with a buffer that would do, which stays as it was
     ∷ encodes (setting 101 100) (buffer 30) (Write.Err Unsupported) (buffer 30)
+    -- "12, 14 or 30 bytes": the shortest
+    ∷ encodes EndConfig (buffer 12) (Write.Ok 12) endFrame
     -- not the document's: the reader, on the bytes that `EnableConfig` writes
     ∷ parses enableFrame (Read.Ok EnableConfig)
     ∷ []

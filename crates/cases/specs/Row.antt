@@ -8,6 +8,7 @@
 --   RunHolds      the row is so by the parser
 --   CommandRow    a command written, its answer and the buffer before and after; or bytes read, and the answer
 --   CommandHolds  the row is so by what the contracts of `Command::encode` and `Command::parse` cite
+--   Row, Holds    a row of any of these kinds, and when it holds
 use mathlib.Core.Path.{_≡_}
 use mathlib.Core.List.{List}
 use Prim.Native.Nat.{ℕ}
@@ -88,3 +89,13 @@ abbrev pub CommandHolds : CommandRow → Type 0
 CommandHolds (encodes c before answer after) = (answerOf (unsupported c) (commandFrame c) (length before) ≡ answer)
     × (bufferAfter (unsupported c) (commandFrame c) before ≡ after)
 CommandHolds (parses s answer) = commandOf s ≡ answer
+
+pub data Row : Type 0 where
+  stream : (r : Stream) → Row
+  run : (r : Run) → Row
+  command : (r : CommandRow) → Row
+
+abbrev pub Holds : Row → Type 0
+Holds (stream r) = StreamHolds r
+Holds (run r) = RunHolds r
+Holds (command r) = CommandHolds r

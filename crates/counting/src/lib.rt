@@ -4,6 +4,7 @@ ghost use mathlib.Core.Path.{_≡_};
 ghost use Rattle.framing.specs.Calls.{feeds};
 ghost use Rattle.parser.specs.Claims.{left};
 ghost use Rattle.parser.specs.Feed.{fresh};
+ghost use Rattle.counting.specs.Counts.{countsOf};
 ghost use Rattle.counting.specs.Reached.{Reached};
 
 // Feeds all of `bytes`: a slice feed stops behind each whole frame, and is called again with the rest. The parser is
@@ -63,14 +64,47 @@ pub fn read_all(fd: i32) -> Parser
     at
 }
 
-// Prints the line `frames resyncs dropped malformed unfinished`: decimal, one space between, a line feed after.
-pub fn print_counts(fd: i32, parser: Parser) {
-    let stats = parser.stats();
-    print_number(fd, stats.frames as u64, b" ");
-    print_number(fd, stats.resyncs as u64, b" ");
-    print_number(fd, stats.dropped as u64, b" ");
-    print_number(fd, stats.malformed as u64, b" ");
-    print_number(fd, parser.unfinished() as u64, b"\n");
+// The numbers of a line, in its order.
+pub struct Counts {
+    pub frames: u32,
+    pub resyncs: u32,
+    pub dropped: u32,
+    pub malformed: u32,
+    pub unfinished: usize,
+}
+
+impl Counts {
+    // What the parser has counted, and how many bytes of a frame it has in progress.
+    fn of(parser: Parser) -> Self
+        ensures told { λ r. ⌜ r ≡ countsOf parser ⌝ }
+    {
+        let stats = parser.stats();
+        Counts {
+            frames: stats.frames,
+            resyncs: stats.resyncs,
+            dropped: stats.dropped,
+            malformed: stats.malformed,
+            unfinished: parser.unfinished(),
+        }
+    }
+}
+
+// Prints the line `frames resyncs dropped malformed unfinished`: decimal, one space between, a line feed after. Answers the
+// numbers on it; no contract can name what is printed.
+pub fn print_counts(fd: i32, parser: Parser) -> Counts
+    ensures told { λ r. ⌜ r ≡ countsOf parser ⌝ }
+{
+    let counts = Counts::of(parser);
+    print_line(fd, counts);
+    counts
+}
+
+fn print_line(fd: i32, counts: Counts) {
+    print_number(fd, counts.frames as u64, b" ");
+    print_number(fd, counts.resyncs as u64, b" ");
+    print_number(fd, counts.dropped as u64, b" ");
+    print_number(fd, counts.malformed as u64, b" ");
+    print_number(fd, counts.unfinished as u64, b"\n");
 }
 
 // Prints a number, and what stands behind it.

@@ -1,6 +1,6 @@
 -- The parser as an engine of the theory of the stream, over the largest length `most`.
 --   answerOf x p     an answer, with the bytes that stand in the parser left where it says that its payload is
---   counterOf k p    the counter k
+--   counterIn k st   the counter k of the counters st
 --   pendingBy most p the bytes that the parser stands for: none where a field is out of range
 --   engine most      the calls, the counters, and the pending string
 use mathlib.Core.List.{List}

@@ -1,4 +1,4 @@
-// Reports of the LD2410: the target state, the engineering block, and reading them from a report frame's data.
+// Reports of the LD2410: reading them from a report frame's data, and the targets that they tell.
 //
 // `Option<Engineering>` of the Rust is a flag beside the block, whose fields are all 0 where the flag is off.
 use engineering::Engineering;
@@ -20,10 +20,10 @@ ghost use Rattle.report.specs.Check.{reportChecks, passing, failing, com
 ghost use Rattle.report.specs.Check.{parsedReport};
 
 // Report data: the fixed head byte after the data type.
-const REPORT_HEAD: u8 = 0xAA;
+pub const REPORT_HEAD: u8 = 0xAA;
 
 // Report data: the two bytes at the end.
-const REPORT_TRAILER: [u8; 2] = [0x55, 0x00];
+pub const REPORT_TRAILER: [u8; 2] = [0x55, 0x00];
 
 // The data type of an engineering report.
 const DATA_TYPE_ENGINEERING: u8 = 0x01;

@@ -3,7 +3,6 @@
 --   decodes f      no check of the whole frame f fails
 --   delivered f    the frame that the whole frame f is read as, its payload counted in the parser's buffer
 --   payloadOf x s  the bytes of s at the place that the frame x gives its payload; none beside a report, or no frame
---   decoding       whole frames, what delivers them, and "no frame"
 --   Counter        the four counters, and what each piece adds to them
 use mathlib.Core.Path.{_≡_, refl}
 use mathlib.Core.List.{List, []}
