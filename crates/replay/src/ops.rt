@@ -33,6 +33,7 @@ fn fields(out: &mut Text, taken: usize, op: u8, argument: &[u8]) -> usize {
         4 => readers::replies(out, taken, argument),
         5 => readers::frame(out, taken, argument),
         6 => commands::encode(out, taken, argument),
+        7 => writers::report(out, taken, argument),
         8 => writers::ack(out, taken, argument),
         9 => commands::read(out, taken, argument),
         12 => commands::baud(out, taken, argument),
