@@ -1,58 +1,36 @@
 -- What the writer answers and leaves: refused for its value, or as its frame is put; and the laws that follow.
 use mathlib.Core.Path.{_≡_, refl}
-use mathlib.Core.List.{List, [], _∷_, _++_}
+use mathlib.Core.List.{List, _++_}
 use mathlib.Core.Bool.{Bool, true, false}
 use mathlib.Core.Option.{none}
-use Prim.Native.Nat.{ℕ, zero, suc, _+_, _≤_, _<_}
+use Prim.Native.Nat.{ℕ, _+_, _<_}
 use native.Mathlib.Omega.{arith}
 use lib.ListN.{length}
 use borrow.Author.Tests.{le-leb}
+use Rattle.wire.specs.Bytes.{Bytes}
 use Rattle.wire.specs.Number.{leBytes}
-use Rattle.wire.specs.Family.{header, tail, framed}
+use Rattle.wire.specs.Family.{framed}
 use Rattle.wire.specs.declared.Kind.the-variants.{Command}
 use Rattle.refusal.specs.declared.Error.the-variants.{Unrepresentable}
 use Rattle.frame.proofs.Framed.{framed-length}
-use Rattle.cursor.specs.Written.{framable, unless, answerOf, bufferAfter, WriteCauses}
+use Rattle.cursor.specs.Written.{framable, answerOf, bufferAfter, WriteCauses}
 use Rattle.cursor.specs.declared.WriteResult.{WriteResult}
 use Rattle.cursor.specs.declared.WriteResult.the-variants.{Err}
-use Rattle.cursor.proofs.Bytes as Cursor
+use Rattle.cursor.proofs.Bytes.{bytes-append, bytes-leBytes, framed-bytes}
 use Rattle.cursor.proofs.Chain.{written-front}
-use Rattle.cursor.proofs.Writers.{Wrote, Shown, wrote-refused, wrote-all, shown}
+use Rattle.cursor.proofs.Writers.{Wrote, Shown, wrote-refused, wrote-all, shown, none-good}
 use Rattle.ack_writer.specs.Frame.{ackData, ackFrame, writable, unrepresentable}
-use Rattle.ack_writer.specs.Read.{Bytes, ReadBack, Unread, Exact, WrittenAgain}
+use Rattle.ack_writer.specs.Read.{ReadBack, Unread, Exact, WrittenAgain}
 use Rattle.ack_writer.proofs.Filling.{data-length}
 use Rattle.ack_writer.proofs.RoundTrip.{writable-sound, reads-written, written-again}
 
 -- The frame of a payload of bytes is a string of bytes.
-bytes-at : (s : List ℕ) → Cursor.Bytes s → Bytes s
-bytes-at [] h i = omega arith
-bytes-at (b ∷ s) h zero = h .0
-bytes-at (b ∷ s) h (suc i) = bytes-at s (h .1) i
-
-bytes-append : (a b : List ℕ) → Cursor.Bytes a → Cursor.Bytes b → Cursor.Bytes (a ++ b)
-bytes-append [] b h k = k
-bytes-append (x ∷ a) b h k = (h .0, bytes-append a b (h .1) k)
-
-header-bytes : Cursor.Bytes (header Command)
-header-bytes = (omega arith, (omega arith, (omega arith, (omega arith, tt))))
-
-tail-bytes : Cursor.Bytes (tail Command)
-tail-bytes = (omega arith, (omega arith, (omega arith, (omega arith, tt))))
-
 frame-bytes : (w s : ℕ) (p : List ℕ) → Bytes p → Bytes (ackFrame w s p)
-unfolding framed ackData
+unfolding ackData
 frame-bytes w s p h =
-    let n = length (ackData w s p) in
-    let d = bytes-append (leBytes 2 (w + 0x0100)) (leBytes 2 s ++ p) (Cursor.bytes-leBytes 2 (w + 0x0100))
-    (bytes-append (leBytes 2 s) p (Cursor.bytes-leBytes 2 s) (Cursor.bytes-all p h)) in
-    bytes-at (ackFrame w s p)
-    (bytes-append (header Command) (leBytes 2 n ++ (ackData w s p ++ tail Command)) header-bytes
-    (bytes-append (leBytes 2 n) (ackData w s p ++ tail Command) (Cursor.bytes-leBytes 2 n)
-    (bytes-append (ackData w s p) (tail Command) d tail-bytes)))
-
-none-good : (b : Bool) → unless b Unrepresentable ≡ none → b ≡ true
-none-good true e = refl
-none-good false e = let z : _≡_ {A = ℕ} 0 1 = cc in absurd (omega arith)
+    framed-bytes Command (ackData w s p)
+    (bytes-append (leBytes 2 (w + 0x0100)) (leBytes 2 s ++ p) (bytes-leBytes 2 (w + 0x0100))
+    (bytes-append (leBytes 2 s) p (bytes-leBytes 2 s) h))
 
 module _ (w : ℕ) (ok : Bool) (s : ℕ) (p : List ℕ) (wide : w < 65536) (wide' : s < 65536) (b : Bytes p)
     (out : List ℕ) where
@@ -70,7 +48,7 @@ module _ (w : ℕ) (ok : Bool) (s : ℕ) (p : List ℕ) (wide : w < 65536) (wide
   read-back r left h n e =
       let x = wrote-all (ackFrame w s p) out left n (unrepresentable w ok s p) (rw e at h) in
       rw (x .content, x .size, written-front out (ackFrame w s p))
-      (reads-written w ok s p wide wide' (none-good (writable w ok s p) (x .good)))
+      (reads-written w ok s p wide wide' (none-good (writable w ok s p) Unrepresentable (x .good)))
 
   -- A value that may not be written is read from no frame, and one that is read from none may not be written.
   unread : writable w ok s p ≡ false → Unread w ok s p

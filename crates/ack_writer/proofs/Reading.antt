@@ -28,7 +28,7 @@ use Rattle.frame.specs.Frame.{frameIf, frameAs, checkedFrame, parsedFrame}
 use Rattle.frame.specs.declared.Frame.{Frame}
 use Rattle.frame.proofs.Bodies.{ack-passes}
 use Rattle.frame.proofs.Framed.{framed-data, framed-length, checked-framed}
-use Rattle.cursor.proofs.Bytes.{Bytes}
+use Rattle.wire.specs.Bytes.{Bytes}
 use Rattle.cursor.proofs.Framing.{checked-cut, cut-framed}
 use Rattle.ack_writer.specs.Read.{acknowledged}
 

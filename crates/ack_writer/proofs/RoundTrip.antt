@@ -8,6 +8,7 @@ use lib.Dec.{eqb, leb}
 use lib.ListN.{length, take, drop, take-append-drop, length-take, length-drop}
 use lib.Seq.{drop-drop}
 use borrow.Author.Tests.{leb-true, le-leb, eqb-true, eq-eqb}
+use Rattle.wire.specs.Bytes.{Bytes}
 use Rattle.wire.specs.Number.{little, leBytes}
 use Rattle.wire.specs.Family.{framed}
 use Rattle.wire.specs.declared.Kind.the-variants.{Command}
@@ -17,9 +18,9 @@ use Rattle.ack.specs.Awaited.{payloadIn}
 use Rattle.ack.specs.declared.Ack.{Ack}
 use Rattle.frame.specs.Frame.{announced, dataOf, startingAt}
 use Rattle.frame.proofs.Framed.{framed-length}
-use Rattle.cursor.proofs.Bytes as Cursor
+use Rattle.cursor.proofs.Bytes.{bytes-take, bytes-drop, leBytes-little}
 use Rattle.ack_writer.specs.Frame.{ackData, ackFrame, writable}
-use Rattle.ack_writer.specs.Read.{Bytes, acknowledged, ackWith, Reads, WrittenAgain}
+use Rattle.ack_writer.specs.Read.{acknowledged, ackWith, Reads, WrittenAgain}
 use Rattle.ack_writer.proofs.Filling.{data-length}
 use Rattle.ack_writer.proofs.Reading.{Holds, read-sound, read-complete, payload-behind}
 
@@ -92,18 +93,18 @@ module _ (w : ℕ) (ok : Bool) (s : ℕ) (p : List ℕ) (wide : w < 65536) (wide
 joined : (x y d : List ℕ) → x ≡ take 2 d → y ≡ take 2 (drop 2 d) → x ++ (y ++ drop 4 d) ≡ d
 joined x y d p q = rw (p, q, ← drop-drop 2 2 d, take-append-drop 2 (drop 2 d)) (take-append-drop 2 d)
 
-two-bytes : (s : List ℕ) → Cursor.Bytes s → 2 ≤ length s → leBytes 2 (little (take 2 s)) ≡ take 2 s
+two-bytes : (s : List ℕ) → Bytes s → 2 ≤ length s → leBytes 2 (little (take 2 s)) ≡ take 2 s
 two-bytes s h n =
     let l : length (take 2 s) ≡ 2 = simp length-take (omega arith) in
-    rw l at (Cursor.leBytes-little (take 2 s) (Cursor.bytes-take 2 s h))
+    rw l at (leBytes-little (take 2 s) (bytes-take 2 s h))
 
 -- Data of bytes that pass A1 and A2 are made of what they are read as.
-module _ (d : List ℕ) (b : Cursor.Bytes d) (four : 4 ≤ length d) (bit : wordIn d / 0x0100 % 2 ≡ 1) where
+module _ (d : List ℕ) (b : Bytes d) (four : 4 ≤ length d) (bit : wordIn d / 0x0100 % 2 ≡ 1) where
   data-again : ackData (wordIn d - 0x0100) (statusIn d) (drop 4 d) ≡ d
   unfolding ackData
   data-again =
       let w : wordIn d - 0x0100 + 0x0100 ≡ wordIn d = omega arith in
-      let k = two-bytes (drop 2 d) (Cursor.bytes-drop 2 d b) (simp length-drop (omega arith)) in
+      let k = two-bytes (drop 2 d) (bytes-drop 2 d b) (simp length-drop (omega arith)) in
       rw w (joined (leBytes 2 (wordIn d)) (leBytes 2 (statusIn d)) d (two-bytes d b (omega arith)) k)
 
   data-fit : length d ≤ 54 → Fit (wordIn d - 0x0100) (eqb (statusIn d) 0) (statusIn d) (drop 4 d)
@@ -114,7 +115,7 @@ held-payload : (f d : List ℕ) (a : Ack) → Holds f d a → payloadIn f (a .pa
 unfolding ackOf
 held-payload f d a h = rw (h .value, h .whole) (payload-behind d (h .four))
 
-held-again : (f d : List ℕ) (a : Ack) → Holds f d a → Cursor.Bytes d → length f ≤ 64
+held-again : (f d : List ℕ) (a : Ack) → Holds f d a → Bytes d → length f ≤ 64
     → (writable (a .word) (a .ok) (a .status) (payloadIn f (a .payload)) ≡ true)
     × (ackFrame (a .word) (a .status) (payloadIn f (a .payload)) ≡ f)
 unfolding ackOf
@@ -128,6 +129,5 @@ held-again f d a h b short =
 
 pub written-again : WrittenAgain
 written-again f b short a e =
-    let g = Cursor.bytes-all f b in
-    let d = Cursor.bytes-take (announced f) (drop 6 f) (Cursor.bytes-drop 6 f g) in
-    held-again f (dataOf f) a (read-sound f a g e) d (omega arith)
+    let d = bytes-take (announced f) (drop 6 f) (bytes-drop 6 f b) in
+    held-again f (dataOf f) a (read-sound f a b e) d (omega arith)

@@ -1,5 +1,4 @@
 -- The acknowledgement that is written, beside the one that the reader of frames gives.
---   Bytes f                 f is a string of bytes
 --   acknowledged a          the reader's answer that gives the acknowledgement a
 --   ackWith w ok s n        the acknowledgement of a frame with a payload of n bytes
 --   Reads f w ok s p        f is read as this value: the reader gives its word, `ok` and status for f, and the bytes of f
@@ -13,8 +12,9 @@ use mathlib.Core.Path.{_≡_}
 use mathlib.Core.Logic.{_↔_}
 use mathlib.Core.List.{List}
 use mathlib.Core.Bool.{Bool, true}
-use Prim.Native.Nat.{ℕ, _≤_, _<_}
-use lib.ListN.{length, take, getD}
+use Prim.Native.Nat.{ℕ, _≤_}
+use lib.ListN.{length, take}
+use Rattle.wire.specs.Bytes.{Bytes}
 use Rattle.refusal.specs.declared.Outcome.the-variants.{Ok}
 use Rattle.report.specs.Report.{noReport}
 use Rattle.ack.specs.Awaited.{payloadIn}
@@ -26,9 +26,6 @@ use Rattle.cursor.specs.Written.{numberOfWrite}
 use Rattle.cursor.specs.declared.WriteResult.{WriteResult}
 use Rattle.cursor.specs.declared.WriteResult.the-variants as Write
 use Rattle.ack_writer.specs.Frame.{ackFrame, writable}
-
-abbrev pub Bytes : List ℕ → Type 0
-Bytes f = (i : ℕ) → getD f i 0 < 256
 
 abbrev pub acknowledged : Ack → FrameResult
 acknowledged a = record { outcome = Ok; frame = record { kind = Is.Ack; report = noReport; ack = a } }

@@ -2,18 +2,17 @@
 use mathlib.Core.Path.{_≡_, refl}
 use mathlib.Core.List.{List}
 use mathlib.Core.Bool.{Bool, true, false}
-use mathlib.Core.Option.{none}
 use Prim.Native.Nat.{ℕ, _≤_}
 use native.Mathlib.Omega.{arith}
 use lib.ListN.{length, take}
 use Rattle.wire.specs.Equal.{sameBytes}
 use Rattle.refusal.specs.declared.Error.{Error}
 use Rattle.refusal.specs.declared.Error.the-variants.{Unsupported, UnknownCommand, InvalidFormat}
-use Rattle.cursor.specs.Written.{unless, written}
+use Rattle.cursor.specs.Written.{written}
 use Rattle.cursor.specs.declared.WriteResult.{WriteResult}
 use Rattle.cursor.specs.declared.WriteResult.the-variants as Write
 use Rattle.cursor.proofs.Chain.{written-front, written-length}
-use Rattle.cursor.proofs.Writers.{Wrote, wrote-whole, wrote-all}
+use Rattle.cursor.proofs.Writers.{Wrote, wrote-whole, wrote-all, none-good}
 use Rattle.command.specs.Command.{commandFrame, encodable, unsupported}
 use Rattle.request.specs.Asking.{asks}
 use Rattle.command.specs.Read.{guessIn, ifEncodesTo, commandOf}
@@ -41,10 +40,6 @@ pub record Laid (c : Command) (left : List ℕ) (n : ℕ) : Type 0 where
   pub inside : n ≤ length left
   pub front : take n left ≡ commandFrame c
 
-none-good : (b : Bool) → unless b Unsupported ≡ none → b ≡ true
-none-good true e = refl
-none-good false e = let z : _≡_ {A = ℕ} 0 1 = cc in absurd (omega arith)
-
 module _ (c : Command) (out left : List ℕ) (r : WriteResult)
     (h : Wrote (unsupported c) (commandFrame c) out r left) where
   pub laid : (n : ℕ) → r ≡ Write.Ok n → Laid c left n
@@ -52,7 +47,7 @@ module _ (c : Command) (out left : List ℕ) (r : WriteResult)
       let w = wrote-all (commandFrame c) out left n (unsupported c) (rw e at h) in
       let l = written-length out (commandFrame c) (w .fits) in
       record {
-        good = none-good (encodable c) (w .good);
+        good = none-good (encodable c) Unsupported (w .good);
         inside = rw (w .content) (omega (arith, w .size, w .fits, l));
         front = rw (w .content, w .size) (written-front out (commandFrame c));
       }

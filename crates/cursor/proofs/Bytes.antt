@@ -1,16 +1,15 @@
--- The bytes of a number and the number of bytes, at any width, are each other's inverse.
+-- Strings of bytes; the bytes of a number and the number of bytes, at any width, are each other's inverse.
 use mathlib.Core.Path.{_≡_, refl, ap}
-use mathlib.Core.List.{List, [], _∷_}
+use mathlib.Core.List.{List, [], _∷_, _++_}
 use Prim.Native.Nat.{ℕ, zero, suc, _+_, _*_, _/_, _%_, _^_, _<_}
 use native.Mathlib.Nat.{pow-suc}
 use native.Mathlib.Omega.{arith}
 use lib.ListN.{length, getD, take, drop}
+use Rattle.wire.specs.Bytes.{Bytes}
 use Rattle.wire.specs.Number.{little, leBytes}
-
--- Every element is a byte.
-abbrev pub Bytes : List ℕ → Type 0
-Bytes [] = Unit {0}
-Bytes (b ∷ s) = (b < 256) × Bytes s
+use Rattle.wire.specs.Family.{header, tail, framed}
+use Rattle.wire.specs.declared.Kind.{Kind}
+use Rattle.wire.specs.declared.Kind.the-variants.{Report, Command}
 
 pub bytes-all : (s : List ℕ) → ((i : ℕ) → getD s i 0 < 256) → Bytes s
 bytes-all [] h = tt
@@ -26,6 +25,10 @@ bytes-drop zero s h = h
 bytes-drop (suc n) [] h = tt
 bytes-drop (suc n) (b ∷ s) h = bytes-drop n s (h .1)
 
+pub bytes-append : (a b : List ℕ) → Bytes a → Bytes b → Bytes (a ++ b)
+bytes-append [] b h k = k
+bytes-append (x ∷ a) b h k = (h .0, bytes-append a b (h .1) k)
+
 pub length-leBytes : (n x : ℕ) → length (leBytes n x) ≡ n
 length-leBytes zero x = refl
 length-leBytes (suc n) x = ap suc (length-leBytes n (x / 256))
@@ -33,6 +36,22 @@ length-leBytes (suc n) x = ap suc (length-leBytes n (x / 256))
 pub bytes-leBytes : (n x : ℕ) → Bytes (leBytes n x)
 bytes-leBytes zero x = tt
 bytes-leBytes (suc n) x = (omega arith, bytes-leBytes n (x / 256))
+
+-- The frame of bytes is one of bytes.
+header-bytes : (k : Kind) → Bytes (header k)
+header-bytes Report = (omega arith, (omega arith, (omega arith, (omega arith, tt))))
+header-bytes Command = (omega arith, (omega arith, (omega arith, (omega arith, tt))))
+
+tail-bytes : (k : Kind) → Bytes (tail k)
+tail-bytes Report = (omega arith, (omega arith, (omega arith, (omega arith, tt))))
+tail-bytes Command = (omega arith, (omega arith, (omega arith, (omega arith, tt))))
+
+pub framed-bytes : (k : Kind) (d : List ℕ) → Bytes d → Bytes (framed k d)
+unfolding framed
+framed-bytes k d h =
+    bytes-append (header k) (leBytes 2 (length d) ++ (d ++ tail k)) (header-bytes k)
+    (bytes-append (leBytes 2 (length d)) (d ++ tail k) (bytes-leBytes 2 (length d))
+    (bytes-append d (tail k) h (tail-bytes k)))
 
 -- A number that n bytes can hold comes back from them.
 pub little-leBytes : (n x : ℕ) → x < 256 ^ n → little (leBytes n x) ≡ x

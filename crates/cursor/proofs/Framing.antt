@@ -6,13 +6,14 @@ use Prim.Native.Nat.{ℕ, _+_, _≤_}
 use native.Mathlib.Omega.{arith}
 use lib.ListN.{length, take, drop, take-append-drop, length-take, length-drop}
 use lib.Seq.{drop-drop, take-append-seam, drop-append-seam}
+use Rattle.wire.specs.Bytes.{Bytes}
 use Rattle.wire.specs.Number.{little, leBytes}
 use Rattle.wire.specs.Family.{header, tail, headerOf, framed}
 use Rattle.wire.specs.declared.Kind.{Kind}
 use Rattle.wire.specs.declared.Kind.the-variants.{Report, Command}
 use Rattle.wire.specs.declared.MaybeKind.the-variants.{Some}
 use Rattle.wire.proofs.Families.{header-sound, header-complete}
-use Rattle.cursor.proofs.Bytes.{Bytes, bytes-take, bytes-drop, little-leBytes, leBytes-little}
+use Rattle.cursor.proofs.Bytes.{bytes-take, bytes-drop, little-leBytes, leBytes-little}
 use Rattle.cursor.proofs.Frames.{frame-length}
 
 -- The string s begins as a frame of the family k, says n in two bytes, and ends behind n more as the family does.

@@ -33,6 +33,11 @@ module _ (f out : List ℕ) where
   unfolding answerOf bufferAfter
   wrote-whole n left q h w = let e = le-leb (length f) (length out) (omega arith) in (rw (q, e), rw e w)
 
+-- A value that is not refused passed its test.
+pub none-good : (b : Bool) (e : Error) → unless b e ≡ none → b ≡ true
+none-good true e h = refl
+none-good false e h = let z : _≡_ {A = ℕ} 0 1 = cc in absurd (omega arith)
+
 -- Nothing is refused only where the value is good and the frame fits, and then the whole frame is written.
 pub record WroteAll (w : Option Error) (f out left : List ℕ) (n : ℕ) : Type 0 where
   pub good : w ≡ none

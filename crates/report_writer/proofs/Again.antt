@@ -6,7 +6,8 @@ use Prim.Native.Nat.{ℕ, _-_}
 use lib.ListN.{length, getD, drop}
 use Rattle.wire.specs.Family.{framed}
 use Rattle.wire.specs.declared.Kind.the-variants as Family
-use Rattle.cursor.proofs.Bytes as Number
+use Rattle.wire.specs.Bytes.{Bytes}
+use Rattle.cursor.proofs.Bytes.{bytes-take, bytes-drop}
 use Rattle.target_state.specs.State.{stateOf, byteOf}
 use Rattle.engineering.specs.Block.{engineeringOf}
 use Rattle.report.specs.Report.{dataType, body, block, basicOf, isEngineering, reportBy, reportOf}
@@ -14,7 +15,7 @@ use Rattle.report.specs.declared.Report.{Report}
 use Rattle.frame.specs.Frame.{announced, dataOf}
 use Rattle.report_writer.specs.Data.{typeOf, basicBytes, blockIf, frontOf, reportData, trailer}
 use Rattle.report_writer.specs.Writable.{allZero, counted, within, writable}
-use Rattle.report_writer.specs.RoundTrip.{Bytes, ReadAs, Short, WrittenAgain}
+use Rattle.report_writer.specs.RoundTrip.{ReadAs, Short, WrittenAgain}
 use Rattle.report_writer.proofs.Basics.{basic-again}
 use Rattle.report_writer.proofs.Blocks.{block-within, block-again}
 use Rattle.report_writer.proofs.Counts.{within-complete}
@@ -45,7 +46,7 @@ module _ (d : List ℕ) (h : Shape d) (s : Short (reportOf d)) where
   unfolding reportOf
   data-writable = view-writable (body d) (dataType d) (block d) (h .kind) s
 
-  data-again : Number.Bytes (body d) → byteOf (stateOf (getD (body d) 0 0)) ≡ getD (body d) 0 0
+  data-again : Bytes (body d) → byteOf (stateOf (getD (body d) 0 0)) ≡ getD (body d) 0 0
       → reportData (reportOf d) ≡ d
   unfolding reportOf reportData frontOf
   data-again b k =
@@ -70,8 +71,8 @@ module _ (r : Report) where
       let x = read-sound f r q in
       let e = x .report in
       let d = dataOf f in
-      let b = Number.bytes-take (announced f) (drop 6 f) (Number.bytes-drop 6 f (Number.bytes-all f bytes)) in
-      let c = Number.bytes-take (length d - 4) (drop 2 d) (Number.bytes-drop 2 d b) in
+      let b = bytes-take (announced f) (drop 6 f) (bytes-drop 6 f bytes) in
+      let c = bytes-take (length d - 4) (drop 2 d) (bytes-drop 2 d b) in
       let again = data-again d (passes-shape d (x .passes)) (rw (← e) at s) c k in (
         read-writable f q s,
         ap (framed Family.Report) (ap reportData (sym e) ∙ again) ∙ sym (read-framed f r bytes x),

@@ -1,17 +1,16 @@
 -- What the writer has to show: its answer and its buffer with their causes, and that reading and writing agree.
-use mathlib.Core.Path.{_≡_, refl}
+use mathlib.Core.Path.{_≡_}
 use mathlib.Core.Logic.{_↔_}
 use mathlib.Core.List.{List}
 use mathlib.Core.Bool.{Bool, true, false}
-use mathlib.Core.Option.{none}
 use Prim.Native.Nat.{ℕ, _≤_}
 use native.Mathlib.Omega.{arith}
 use lib.ListN.{length}
 use Rattle.refusal.specs.declared.Error.the-variants.{Unrepresentable}
-use Rattle.cursor.specs.Written.{unless, answerOf, bufferAfter, WriteCauses}
+use Rattle.cursor.specs.Written.{answerOf, bufferAfter, WriteCauses}
 use Rattle.cursor.specs.declared.WriteResult.{WriteResult}
 use Rattle.cursor.proofs.Chain.{written-front}
-use Rattle.cursor.proofs.Writers.{Wrote, wrote-all}
+use Rattle.cursor.proofs.Writers.{Wrote, wrote-all, none-good}
 use Rattle.engineering.specs.declared.Engineering.{Engineering}
 use Rattle.report.specs.declared.Report.{Report}
 use Rattle.report_writer.specs.Data.{reportFrame}
@@ -23,10 +22,6 @@ use Rattle.report_writer.proofs.Counts.{within-sound}
 use Rattle.report_writer.proofs.FrameBytes.{frame-bytes}
 use Rattle.report_writer.proofs.Typed.{TypedReport}
 use Rattle.report_writer.proofs.Writing.{Answered}
-
-none-good : (b : Bool) → unless b Unrepresentable ≡ none → b ≡ true
-none-good true e = refl
-none-good false e = let z : _≡_ {A = ℕ} 0 1 = cc in absurd (omega arith)
 
 writable-short : (flag : Bool) (e : Engineering) → writableIf flag e ≡ true → e .«extra_len» ≤ 8
 writable-short true e g = within-sound 1 9 8 e g .reserved .most
@@ -48,7 +43,7 @@ module _ (r : Report) (t : TypedReport r) where
     read-back : Wrote (unrepresentable r) (reportFrame r) out w left → ReadBack r w left
     read-back h n e =
         let a = wrote-all (reportFrame r) out left n (unrepresentable r) (rw e at h) in
-        rw (a .content, a .size, written-front out (reportFrame r)) (frame-back r t (none-good (writable r) (a .good)))
+        rw (a .content, a .size, written-front out (reportFrame r)) (frame-back r t (none-good (writable r) Unrepresentable (a .good)))
 
     pub complete : Answered r out left w
         → (w ≡ answerOf (unrepresentable r) (reportFrame r) (length out))

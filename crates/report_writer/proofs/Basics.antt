@@ -7,7 +7,8 @@ use native.Mathlib.Omega.{arith}
 use lib.ListN.{length, getD, take, drop, length-take, length-drop, take-append-drop}
 use lib.Seq.{drop-cons, drop-drop}
 use Rattle.wire.specs.Number.{little, leBytes}
-use Rattle.cursor.proofs.Bytes.{Bytes, bytes-take, bytes-drop, leBytes-little}
+use Rattle.wire.specs.Bytes.{Bytes}
+use Rattle.cursor.proofs.Bytes.{bytes-take, bytes-drop, leBytes-little}
 use Rattle.target_state.specs.State.{stateOf, byteOf}
 use Rattle.report.specs.Report.{basicOf, reportWith}
 use Rattle.engineering.specs.declared.Engineering.{Engineering}

@@ -1,14 +1,13 @@
 -- Every entry of a report's frame is a byte.
 use mathlib.Core.Path.{_≡_}
-use mathlib.Core.List.{List, [], _∷_, _++_}
+use mathlib.Core.List.{List, _∷_, _++_}
 use mathlib.Core.Bool.{Bool, true, false}
-use Prim.Native.Nat.{ℕ, zero, suc, _<_}
+use Prim.Native.Nat.{ℕ, _<_}
 use native.Mathlib.Omega.{arith}
-use lib.ListN.{length}
+use Rattle.wire.specs.Bytes.{Bytes}
 use Rattle.wire.specs.Number.{leBytes}
-use Rattle.wire.specs.Family.{tail, framed}
 use Rattle.wire.specs.declared.Kind.the-variants as Family
-use Rattle.cursor.proofs.Bytes.{Bytes, bytes-take, bytes-leBytes}
+use Rattle.cursor.proofs.Bytes.{bytes-append, bytes-take, bytes-leBytes, framed-bytes}
 use Rattle.target_state.specs.State.{byteOf}
 use Rattle.target_state.specs.declared.TargetState.{TargetState}
 use Rattle.target_state.specs.declared.TargetState.the-variants.{None, Moving, Stationary, Both}
@@ -17,18 +16,8 @@ use Rattle.report.specs.declared.Report.{Report}
 use Rattle.report_writer.specs.Data.{movingEnergies, stationaryEnergies, reservedBytes, blockOf, blockIf}
 use Rattle.report_writer.specs.Data.{typeOf, frontOf, trailer, reportData, reportFrame}
 use Rattle.report_writer.specs.Writable.{writableIf, writable}
-use Rattle.report_writer.specs.RoundTrip as Trip
 use Rattle.report_writer.proofs.Counts.{within-sound}
 use Rattle.report_writer.proofs.Typed.{TypedBlock, TypedReport}
-
-append : (a b : List ℕ) → Bytes a → Bytes b → Bytes (a ++ b)
-append [] b p q = q
-append (x ∷ a) b p q = (p .0, append a b (p .1) q)
-
-entries : (s : List ℕ) → Bytes s → Trip.Bytes s
-entries [] h i = omega arith
-entries (b ∷ s) h zero = h .0
-entries (b ∷ s) h (suc i) = entries s (h .1) i
 
 type-byte : (g : Bool) → typeOf g < 256
 type-byte true = omega arith
@@ -47,13 +36,13 @@ block-bytes true e t h =
     let m = bytes-take (e .«moving_gates») (e .«moving_energy») (t .moving-energy .bytes) in
     let s = bytes-take (e .«stationary_gates») (e .«stationary_energy») (t .stationary-energy .bytes) in
     let x = bytes-take (e .«extra_len») (e .extra) (t .extra .bytes) in
-    let behind = append (stationaryEnergies e) (reservedBytes e) s x in
-    (omega arith, (omega arith, append (movingEnergies e) (stationaryEnergies e ++ reservedBytes e) m behind))
+    let behind = bytes-append (stationaryEnergies e) (reservedBytes e) s x in
+    (omega arith, (omega arith, bytes-append (movingEnergies e) (stationaryEnergies e ++ reservedBytes e) m behind))
 block-bytes false e t h = tt
 
 module _ (r : Report) (t : TypedReport r) where
   number : (x : ℕ) (s : List ℕ) → Bytes s → Bytes (leBytes 2 x ++ s)
-  number x s h = append (leBytes 2 x) s (bytes-leBytes 2 x) h
+  number x s h = bytes-append (leBytes 2 x) s (bytes-leBytes 2 x) h
 
   front-bytes : Bytes (frontOf r)
   unfolding frontOf
@@ -73,13 +62,7 @@ module _ (r : Report) (t : TypedReport r) where
       let b = blockIf (r .«has_engineering») (r .engineering) in
       let h = block-bytes (r .«has_engineering») (r .engineering) (t .engineering) g in
       let tail : Bytes trailer = (omega arith, (omega arith, tt)) in
-      append (frontOf r) (b ++ trailer) front-bytes (append b trailer h tail)
+      bytes-append (frontOf r) (b ++ trailer) front-bytes (bytes-append b trailer h tail)
 
-  pub frame-bytes : writable r ≡ true → Trip.Bytes (reportFrame r)
-  unfolding framed
-  frame-bytes g =
-      let d = reportData r in
-      let tails : Bytes (tail Family.Report) =
-      (omega arith, (omega arith, (omega arith, (omega arith, tt)))) in
-      let inner = number (length d) (d ++ tail Family.Report) (append d (tail Family.Report) (data-bytes g) tails) in
-      entries (reportFrame r) (omega arith, (omega arith, (omega arith, (omega arith, inner))))
+  pub frame-bytes : writable r ≡ true → Bytes (reportFrame r)
+  frame-bytes g = framed-bytes Family.Report (reportData r) (data-bytes g)

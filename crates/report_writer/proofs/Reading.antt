@@ -6,6 +6,7 @@ use Prim.Native.Nat.{ℕ, _+_, _≤_, _<_}
 use native.Mathlib.Omega.{arith}
 use lib.ListN.{length, drop}
 use borrow.Author.Tests.{leb-true}
+use Rattle.wire.specs.Bytes.{Bytes}
 use Rattle.wire.specs.Family.{tail, framed}
 use Rattle.refusal.specs.Check.{Passes, firstFailed, outcomeOf}
 use Rattle.refusal.proofs.Checks.{passes-sound, passes-complete}
@@ -16,7 +17,6 @@ use Rattle.wire.specs.declared.MaybeKind.the-variants as Found
 use Rattle.refusal.specs.declared.MaybeCheck.{MaybeCheck}
 use Rattle.refusal.specs.declared.MaybeCheck.the-variants as Maybe
 use Rattle.refusal.specs.declared.Outcome.the-variants.{Ok}
-use Rattle.cursor.proofs.Bytes as Number
 use Rattle.cursor.proofs.Framing.{cut-framed, checked-cut}
 use Rattle.report.specs.Check.{reportChecks}
 use Rattle.report.specs.Report.{reportOf}
@@ -25,7 +25,7 @@ use Rattle.frame.specs.Frame.{family, announced, dataOf, endsAs, thenBody, fram
 use Rattle.frame.specs.Frame.{checkedFrame, parsedFrame}
 use Rattle.frame.specs.declared.Frame.{Frame}
 use Rattle.frame.proofs.Framed.{checked-framed}
-use Rattle.report_writer.specs.RoundTrip.{Bytes, holding, ReadAs}
+use Rattle.report_writer.specs.RoundTrip.{holding, ReadAs}
 
 pub record Read (f : List ℕ) (r : Report) : Type 0 where
   pub header : family f ≡ Found.Some Family.Report
@@ -68,7 +68,7 @@ module _ (f : List ℕ) (r : Report) where
   pub read-framed : Bytes f → Read f r → f ≡ framed Family.Report (dataOf f)
   read-framed b h =
       cut-framed Family.Report (announced f) f
-      (checked-cut Family.Report f (Number.bytes-all f b) (h .header) (h .inside) (h .ends))
+      (checked-cut Family.Report f b (h .header) (h .inside) (h .ends))
 
 -- Data that pass the checks are read as their report, in their frame.
 pub read-complete : (d : List ℕ) → length d < 65536 → Passes reportChecks d

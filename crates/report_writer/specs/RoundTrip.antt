@@ -1,6 +1,5 @@
 -- Reading and writing agree: refused is "a value that the reader can't give", and "reading and writing again gives
 -- equal bytes for every report with state byte 0 to 3 and at most eight reserved bytes".
---   Bytes f            every entry of f is a byte
 --   holding r          the frame that holds the report r
 --   ReadAs f r         `Frame::parse` gives the report r for the frame f
 --   Short r            the report r has at most eight reserved bytes
@@ -12,8 +11,9 @@
 use mathlib.Core.Path.{_≡_}
 use mathlib.Core.List.{List}
 use mathlib.Core.Bool.{true}
-use Prim.Native.Nat.{ℕ, _≤_, _<_}
-use lib.ListN.{getD, take}
+use Prim.Native.Nat.{ℕ, _≤_}
+use lib.ListN.{take}
+use Rattle.wire.specs.Bytes.{Bytes}
 use Rattle.refusal.specs.declared.Outcome.the-variants as Outcome
 use Rattle.cursor.specs.declared.WriteResult.{WriteResult}
 use Rattle.cursor.specs.declared.WriteResult.the-variants as Write
@@ -25,9 +25,6 @@ use Rattle.frame.specs.declared.Frame.{Frame}
 use Rattle.frame.specs.declared.FrameKind.the-variants as Is
 use Rattle.report_writer.specs.Data.{reportFrame}
 use Rattle.report_writer.specs.Writable.{writable}
-
-abbrev pub Bytes : List ℕ → Type 0
-Bytes f = (i : ℕ) → getD f i 0 < 256
 
 abbrev pub holding : Report → Frame
 holding r = record { kind = Is.Report; report = r; ack = noAck }

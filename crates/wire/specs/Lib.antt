@@ -3,3 +3,4 @@ pub mod Number
 pub mod Counter
 pub mod Prefix
 pub mod Equal
+pub mod Bytes

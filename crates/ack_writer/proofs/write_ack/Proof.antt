@@ -5,6 +5,7 @@ use native.Mathlib.Omega.{arith}
 use lib.Seq.{length-take-le}
 use borrow.Author.Needs.{needs}
 use borrow.Author.Tests.{not-true, not-false}
+use Rattle.cursor.proofs.Bytes.{bytes-all}
 use Rattle.ack_writer.proofs.Filling.{data-filled}
 use Rattle.ack_writer.proofs.RoundTrip.{writable-sound}
 use Rattle.ack_writer.proofs.Answers.{ack-refused, ack-put}
@@ -19,7 +20,7 @@ returns c =
     let known = c .before .before in
     let a = known .before .before .args in
     ack-refused (a .word) (a .ok) (a .status) (a .payload .now) (omega arith) (omega arith)
-    (λ i. omega (arith, known .shared-slice-known .given i)) (a .out .now)
+    (bytes-all (a .payload .now) (λ i. omega (arith, known .shared-slice-known .given i))) (a .out .now)
     (sym (c .before .writable .ensures) ∙ not-true _ (c .if1 .taken))
 
 slice-aggregate-put-u16 : tie.Need-slice-aggregate-put-u16
@@ -80,7 +81,7 @@ returns-2 c =
     let filled = data-filled (a .word) (a .status) (a .payload .now) _ _ _ (fit .short) (first .put-u16 .ensures .1)
     (second .put-u162 .ensures .1) (third .put .ensures .1) in
     ack-put (a .word) (a .ok) (a .status) (a .payload .now) (omega arith) (omega arith)
-    (λ i. omega (arith, known .shared-slice-known .given i)) (a .out .now) _ _ _ good filled
+    (bytes-all (a .payload .now) (λ i. omega (arith, known .shared-slice-known .given i))) (a .out .now) _ _ _ good filled
     (c .before .before .put-frame .ensures)
 
 pub write-ack-spec : {M : Type 1} → statement M
