@@ -1,5 +1,5 @@
 -- Laws about the definitions, which the proofs of this crate and of the crates above cite.
--- The data of a command, by the kind of its value.
+-- How long a command's value is.
 pub mod Makers
 -- The reader's test of a frame.
 pub mod Framing

@@ -1,17 +1,14 @@
 -- What a command is sent as, by its word and its value: "a frame is header, length, word, value, tail".
---   recordBytes k v  a record: "number (two bytes) and value (four)"
---   valueBytes v     the bytes of a value: none, a two-byte number, or three records numbered 0, 1, 2
+--   valueBytes v     the bytes of a value: none, a two-byte number, or three records (recordBytes k v) numbered 0, 1, 2
 --   dataWith w v     a word, then a value: the data of a frame; and frameWith w v, the frame
 use mathlib.Core.List.{List, [], _++_}
 use Prim.Native.Nat.{ℕ}
 use Rattle.wire.specs.Number.{leBytes}
 use Rattle.wire.specs.Family.{framed}
 use Rattle.wire.specs.declared.Kind.the-variants as Family
+pub use Rattle.maker.specs.Request.{recordBytes}
 use Rattle.request.specs.declared.Value.{Value}
 use Rattle.request.specs.declared.Value.the-variants as Of
-
-abbrev pub recordBytes : ℕ → ℕ → List ℕ
-recordBytes k v = leBytes 2 k ++ leBytes 4 v
 
 abbrev pub valueBytes : Value → List ℕ
 valueBytes Of.None = []

@@ -2,10 +2,10 @@
 // something of the module.
 use cursor::MAX_LENGTH;
 use cursor::WriteResult;
-use cursor::put_frame;
-use cursor::put_record;
-use cursor::put_u16;
 use cursor::u16_bytes;
+use maker::put_bare;
+use maker::put_number;
+use maker::put_records;
 use wire::ACK_BIT;
 use wire::FRAMING;
 use wire::Kind;
@@ -18,7 +18,6 @@ ghost use lib.ListN.{length};
 ghost use Rattle.cursor.specs.Written.{answerOf, bufferAfter};
 ghost use Rattle.request.specs.Request.{valueBytes, frameWith};
 ghost use Rattle.request.specs.Asking.{isFrame, numberIn, asks};
-ghost use Rattle.request.specs.declared.Value.the-variants as Of;
 
 // Where the word begins in a frame.
 const WORD: usize = 6;
@@ -43,7 +42,7 @@ impl Value {
     }
 }
 
-// Writes the frame of a command with the word and the value.
+// Writes the frame of a command with the word and the value: each kind of value has its maker.
 pub fn put_value(out: &mut [u8], word: u16, value: Value) -> WriteResult
     ensures told { λ r. ⌜ r ≡ answerOf none (frameWith word value) (length (now (out .entry))) ⌝ }
     ensures left { λ _. ⌜ now (out .exit) ≡ bufferAfter none (frameWith word value) (now (out .entry)) ⌝ }
@@ -53,39 +52,6 @@ pub fn put_value(out: &mut [u8], word: u16, value: Value) -> WriteResult
         Value::Number(v) => put_number(out, word, v),
         Value::Records(a, b, c) => put_records(out, word, a, b, c),
     }
-}
-
-// Writes the frame of a command without a value.
-fn put_bare(out: &mut [u8], word: u16) -> WriteResult
-    ensures told { λ r. ⌜ r ≡ answerOf none (frameWith word Of.None) (length (now (out .entry))) ⌝ }
-    ensures left { λ _. ⌜ now (out .exit) ≡ bufferAfter none (frameWith word Of.None) (now (out .entry)) ⌝ }
-{
-    let bytes = u16_bytes(word);
-    put_frame(out, Kind::Command, &bytes)
-}
-
-// Writes the frame of a command with a two-byte value.
-fn put_number(out: &mut [u8], word: u16, v: u16) -> WriteResult
-    ensures told { λ r. ⌜ r ≡ answerOf none (frameWith word (Of.Number v)) (length (now (out .entry))) ⌝ }
-    ensures left { λ _. ⌜ now (out .exit) ≡ bufferAfter none (frameWith word (Of.Number v)) (now (out .entry)) ⌝ }
-{
-    let mut bytes: [u8; 4] = [0; 4];
-    put_u16(&mut bytes, 0, word);
-    put_u16(&mut bytes, 2, v);
-    put_frame(out, Kind::Command, &bytes)
-}
-
-// Writes the frame of a command with three records, numbered 0, 1, 2.
-fn put_records(out: &mut [u8], word: u16, a: u32, b: u32, c: u32) -> WriteResult
-    ensures told { λ r. ⌜ r ≡ answerOf none (frameWith word (Of.Records a b c)) (length (now (out .entry))) ⌝ }
-    ensures left { λ _. ⌜ now (out .exit) ≡ bufferAfter none (frameWith word (Of.Records a b c)) (now (out .entry)) ⌝ }
-{
-    let mut bytes: [u8; 20] = [0; 20];
-    put_u16(&mut bytes, 0, word);
-    put_record(&mut bytes, 2, 0, a);
-    put_record(&mut bytes, 8, 1, b);
-    put_record(&mut bytes, 14, 2, c);
-    put_frame(out, Kind::Command, &bytes)
 }
 
 // Whether the bytes are exactly one frame of the command family, with data that a length can say.

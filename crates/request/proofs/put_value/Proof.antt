@@ -1,5 +1,7 @@
--- `command::maker::put_value` meets its contract: each kind of value has its maker. Assumes nothing.
+-- `request::put_value` meets its contract: each kind of value has its maker, whose frame is the command's. Assumes
+-- nothing.
 use borrow.Author.Needs.{needs}
+use Rattle.request.specs.Request.{dataWith}
 use Rattle.request.proofs.put_value.Statement.{statement}
 use Rattle.request.proofs.put_value.Tie as tie
 
@@ -25,18 +27,21 @@ same-length : tie.Need-same-length
 same-length c = search needs
 
 returns : tie.Need-returns
+unfolding dataWith
 returns c = rw (c .before .before .before .before .enum-told .given .1) (c .before .before .put-bare .ensures)
 
 same-length-2 : tie.Need-same-length-2
 same-length-2 c = search needs
 
 returns-2 : tie.Need-returns-2
+unfolding dataWith
 returns-2 c = rw (c .before .before .before .before .before .value .given .1) (c .before .before .put-number .ensures)
 
 same-length-3 : tie.Need-same-length-3
 same-length-3 c = search needs
 
 returns-3 : tie.Need-returns-3
+unfolding dataWith
 returns-3 c = rw (c .before .before .before .before .before .value2 .given .1) (c .before .before .put-records .ensures)
 
 pub put-value-spec : {M : Type 1} → statement M

@@ -1,0 +1,100 @@
+// A writer that holds the caller's slice: bytes, numbers and records put one behind the other, each as a whole or not
+// at all.
+//
+// Every method is total: where there is too little room it refuses with 4 and the bytes needed in all, and neither the
+// slice nor the position changes.
+use cursor::Placed;
+use cursor::WriteResult;
+use cursor::put;
+use cursor::put_record;
+use cursor::put_u16;
+use cursor::put_u32;
+use refusal::Error;
+ghost use mathlib.Core.Path.{_≡_};
+ghost use mathlib.Core.List.{_++_};
+ghost use Rattle.wire.specs.Number.{leBytes};
+ghost use Rattle.out_cursor.specs.Held.{nextAt, toldBy, told, moved};
+
+// The caller's slice, the position of the next byte in it, and the bytes needed in all, which a refusal tells.
+pub struct Cursor<'a> {
+    pub out: &'a mut [u8],
+    pub pos: usize,
+    pub needed: usize,
+}
+
+impl<'a> Cursor<'a> {
+    // A cursor at the front of the slice.
+    pub fn new(out: &'a mut [u8], needed: usize) -> Cursor<'a>
+        ensures made { λ r. ⌜ (r .out ≡ out .entry) × (r .pos ≡ 0) × (r .needed ≡ needed) ⌝ }
+    {
+        Cursor {
+            out: out,
+            pos: 0,
+            needed: needed,
+        }
+    }
+
+    // Puts the bytes.
+    pub fn put(&mut self, bytes: &[u8]) -> WriteResult
+        ensures told { λ r. ⌜ r ≡ told (now (self .entry)) (now (bytes .entry)) ⌝ }
+        ensures left { λ _. ⌜ now (self .exit) ≡ moved (now (self .entry)) (now (bytes .entry)) ⌝ }
+    {
+        let at = self.pos;
+        let p = put(&mut *self.out, at, bytes);
+        self.pos = after(at, p);
+        tell(self.needed, p)
+    }
+
+    // Puts a two-byte number.
+    pub fn u16(&mut self, v: u16) -> WriteResult
+        ensures told { λ r. ⌜ r ≡ told (now (self .entry)) (leBytes 2 v) ⌝ }
+        ensures left { λ _. ⌜ now (self .exit) ≡ moved (now (self .entry)) (leBytes 2 v) ⌝ }
+    {
+        let at = self.pos;
+        let p = put_u16(&mut *self.out, at, v);
+        self.pos = after(at, p);
+        tell(self.needed, p)
+    }
+
+    // Puts a four-byte number.
+    pub fn u32(&mut self, v: u32) -> WriteResult
+        ensures told { λ r. ⌜ r ≡ told (now (self .entry)) (leBytes 4 v) ⌝ }
+        ensures left { λ _. ⌜ now (self .exit) ≡ moved (now (self .entry)) (leBytes 4 v) ⌝ }
+    {
+        let at = self.pos;
+        let p = put_u32(&mut *self.out, at, v);
+        self.pos = after(at, p);
+        tell(self.needed, p)
+    }
+
+    // Puts a record: a parameter's number in two bytes, its value in four.
+    pub fn record(&mut self, param: u16, value: u32) -> WriteResult
+        ensures told { λ r. ⌜ r ≡ told (now (self .entry)) (leBytes 2 param ++ leBytes 4 value) ⌝ }
+        ensures left { λ _. ⌜ now (self .exit) ≡ moved (now (self .entry)) (leBytes 2 param ++ leBytes 4 value) ⌝ }
+    {
+        let at = self.pos;
+        let p = put_record(&mut *self.out, at, param, value);
+        self.pos = after(at, p);
+        tell(self.needed, p)
+    }
+}
+
+// The position after a put at `at` that answered `p`.
+fn after(at: usize, p: Placed) -> usize
+    ensures next { λ r. ⌜ r ≡ nextAt at p ⌝ }
+{
+    match p {
+        Placed::End(end) => end,
+        Placed::TooSmall => at,
+    }
+}
+
+// What a put that answered `p` tells, where `needed` bytes are needed in all.
+fn tell(needed: usize, p: Placed) -> WriteResult
+    ensures told { λ r. ⌜ r ≡ toldBy needed p ⌝ }
+{
+    match p {
+        Placed::End(end) => WriteResult::Ok(end),
+        Placed::TooSmall => WriteResult::Err(Error::BufferTooSmall { needed }),
+    }
+}
