@@ -1,6 +1,5 @@
-//! Writes a load to standard output: `load mix TIMES` the 64 KiB mixture of request 8 with the seed 2463534242,
-//! `load f4 TIMES` 65,536 bytes F4; each TIMES times over.
-use std::io::Write;
+//! The loads: the 64 KiB mixture of request 8 with the seed 2463534242, and 65,536 bytes F4. A third, with every kind
+//! of frame, is for the digests.
 
 /// Request 8's generator: a draw is its state after one turn.
 struct Draws(u32);
@@ -50,13 +49,25 @@ fn mixture() -> Vec<u8> {
     }
 }
 
-fn main() -> std::io::Result<()> {
-    let args: Vec<String> = std::env::args().collect();
-    let load = if args[1] == "mix" { mixture() } else { vec![0xF4; 65_536] };
-    let times: usize = args[2].parse().expect("TIMES is a number");
-    let mut out = std::io::stdout().lock();
-    for _ in 0..times {
-        out.write_all(&load)?;
+/// An engineering report with three reserved bytes, of which none is 0, an acknowledgement, and a frame that does not
+/// decode.
+fn kinds() -> Vec<u8> {
+    let mut load = vec![0xF4, 0xF3, 0xF2, 0xF1, 36, 0, 1, 0xAA];
+    load.extend(1..10);
+    load.extend([8, 8]);
+    load.extend(11..32);
+    load.extend([0x55, 0, 0xF8, 0xF7, 0xF6, 0xF5]);
+    load.extend([0xFD, 0xFC, 0xFB, 0xFA, 6, 0, 0xA5, 1, 1, 2, 3, 4, 4, 3, 2, 1]);
+    load.extend([0xFD, 0xFC, 0xFB, 0xFA, 2, 0, 0xFF, 0, 4, 3, 2, 1]);
+    load
+}
+
+/// The load named `mix`, `f4` or `kinds`, `times` over.
+pub fn load(name: &str, times: usize) -> Vec<u8> {
+    match name {
+        "mix" => mixture().repeat(times),
+        "f4" => vec![0xF4; 65_536 * times],
+        "kinds" => kinds().repeat(times),
+        _ => panic!("no load {name}"),
     }
-    Ok(())
 }

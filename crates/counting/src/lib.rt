@@ -1,17 +1,18 @@
 // Counting what a stream holds: bytes of any number fed to a parser, and its numbers printed on one line.
 use parser::Parser;
 ghost use mathlib.Core.Path.{_≡_};
+ghost use Rattle.framing.specs.Bytes.{Bytes};
 ghost use Rattle.framing.specs.Calls.{feeds};
 ghost use Rattle.parser.specs.Claims.{left};
 ghost use Rattle.parser.specs.Feed.{fresh};
 ghost use Rattle.counting.specs.Counts.{countsOf};
-ghost use Rattle.counting.specs.Reached.{Reached};
+ghost use Rattle.counting.specs.Reached.{Reached, Turned};
 
 // Feeds all of `bytes`: a slice feed stops behind each whole frame, and is called again with the rest. The parser is
 // left as by feeding the bytes one by one, so that demand 3 (specs/Claims.antt of `parser`) says what it has counted.
 pub fn feed_all(parser: Parser, bytes: &[u8]) -> Parser
     ensures fed { λ r. ⌜ r ≡ left parser (feeds (now (bytes .entry))) ⌝ }
-    ensures reached { λ r. ⌜ Reached parser r ⌝ }
+    ensures bytes { λ _. ⌜ Bytes (now (bytes .entry)) ⌝ }
 {
     let mut at = parser;
     let mut i = 0;
@@ -32,9 +33,10 @@ struct Turn {
 }
 
 // Reads once, and feeds what came. A read that fails counts as the end of the input. No contract can name the bytes
-// that are read: this one says that the parser is left as some bytes leave it.
+// that are read: this one says that the parser is left as some bytes leave it, and that more may come if there were
+// any.
 fn read_some(fd: i32, parser: Parser) -> Turn
-    ensures reached { λ r. ⌜ Reached parser (r .parser) ⌝ }
+    ensures turned { λ r. ⌜ Turned parser (r .parser) (r .more) ⌝ }
 {
     let mut buf = io::buffer();
     let got = libc::read(fd, &mut buf);

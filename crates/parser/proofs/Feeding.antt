@@ -13,8 +13,6 @@ use Rattle.wire.proofs.Counters.{bumped-nil, bumped-most}
 use Rattle.refusal.specs.Check.{firstFailed}
 use Rattle.wire.specs.Family.{header, tail, framed}
 use Rattle.wire.specs.declared.Kind.{Kind}
-use Rattle.refusal.specs.declared.MaybeCheck.{MaybeCheck}
-use Rattle.refusal.specs.declared.MaybeCheck.the-variants as Maybe
 use Rattle.frame.specs.Frame.{bodyChecks, decoded}
 use Rattle.framing.specs.Framing.{Framing}
 use Rattle.framing.specs.Tally.{sum, one-if, passed, resynced, lost, total}
@@ -74,22 +72,22 @@ emitted-scan : (e : Ended) (c : Scan) (st : Stats) (buf : List ℕ) → emitted 
 emitted-scan (Frame k n) c st buf = refl
 emitted-scan Nothing c st buf = refl
 
-counted-resyncs : (o : MaybeCheck) (st : Stats) → counted o st .resyncs ≡ st .resyncs
-counted-resyncs (Maybe.Some c) st = refl
-counted-resyncs Maybe.None st = refl
+counted-resyncs : (x : Bool) (st : Stats) → counted x st .resyncs ≡ st .resyncs
+counted-resyncs true st = refl
+counted-resyncs false st = refl
 
-counted-dropped : (o : MaybeCheck) (st : Stats) → counted o st .dropped ≡ st .dropped
-counted-dropped (Maybe.Some c) st = refl
-counted-dropped Maybe.None st = refl
+counted-dropped : (x : Bool) (st : Stats) → counted x st .dropped ≡ st .dropped
+counted-dropped true st = refl
+counted-dropped false st = refl
 
-counted-frames : (o : MaybeCheck) (st : Stats) → Capped st → counted o st .frames ≡ bumped (st .frames) (one-if (holds o))
-counted-frames (Maybe.Some c) st cap = sym (bumped-nil (st .frames) (cap .frames))
-counted-frames Maybe.None st cap = refl
+counted-frames : (x : Bool) (st : Stats) → Capped st → counted x st .frames ≡ bumped (st .frames) (one-if x)
+counted-frames true st cap = refl
+counted-frames false st cap = sym (bumped-nil (st .frames) (cap .frames))
 
-counted-malformed : (o : MaybeCheck) (st : Stats) → Capped st
-    → counted o st .malformed ≡ bumped (st .malformed) (one-if (not (holds o)))
-counted-malformed (Maybe.Some c) st cap = refl
-counted-malformed Maybe.None st cap = sym (bumped-nil (st .malformed) (cap .malformed))
+counted-malformed : (x : Bool) (st : Stats) → Capped st
+    → counted x st .malformed ≡ bumped (st .malformed) (one-if (not x))
+counted-malformed true st cap = sym (bumped-nil (st .malformed) (cap .malformed))
+counted-malformed false st cap = refl
 
 module _ (most : ℕ) (small : most < 65536) (buf : List ℕ) (room : most ≤ length buf) (c : Scan) (st : Stats) (cap : Capped st) where
   -- The data of a whole frame, at the front of the buffer.
@@ -114,21 +112,21 @@ module _ (most : ℕ) (small : most < 65536) (buf : List ℕ) (room : most ≤ l
   emitted-frames : (e : Ended) → Fits most e
       → emitted e c st buf .stats .frames ≡ bumped (st .frames) (endedCount decodes (endedAs e buf))
   emitted-frames (Frame k n) fits =
-      rw (decodes-here k n fits) (counted-frames (decoded 4 k (take n buf) .failed) st cap)
+      rw (decodes-here k n fits) (counted-frames (holds (decoded 4 k (take n buf) .failed)) st cap)
   emitted-frames Nothing fits = sym (bumped-nil (st .frames) (cap .frames))
 
   emitted-malformed : (e : Ended) → Fits most e
       → emitted e c st buf .stats .malformed ≡ bumped (st .malformed) (endedCount (λ f. not (decodes f)) (endedAs e buf))
   emitted-malformed (Frame k n) fits =
-      rw (decodes-here k n fits) (counted-malformed (decoded 4 k (take n buf) .failed) st cap)
+      rw (decodes-here k n fits) (counted-malformed (holds (decoded 4 k (take n buf) .failed)) st cap)
   emitted-malformed Nothing fits = sym (bumped-nil (st .malformed) (cap .malformed))
 
   emitted-resyncs : (e : Ended) → emitted e c st buf .stats .resyncs ≡ st .resyncs
-  emitted-resyncs (Frame k n) = counted-resyncs (decoded 4 k (take n buf) .failed) st
+  emitted-resyncs (Frame k n) = counted-resyncs (holds (decoded 4 k (take n buf) .failed)) st
   emitted-resyncs Nothing = refl
 
   emitted-dropped : (e : Ended) → emitted e c st buf .stats .dropped ≡ st .dropped
-  emitted-dropped (Frame k n) = counted-dropped (decoded 4 k (take n buf) .failed) st
+  emitted-dropped (Frame k n) = counted-dropped (holds (decoded 4 k (take n buf) .failed)) st
   emitted-dropped Nothing = refl
 
 -- A byte that is stored leaves the buffer as long as it was.

@@ -1,5 +1,7 @@
 -- A byte fed does what the scanner's step does.
 pub mod Feeding
+-- What is emitted where a frame ended, and where none did.
+pub mod Emits
 -- A slice fed does what its bytes do, fed one by one.
 pub mod Slicing
 -- The parser is a lawful engine of the link's framing.

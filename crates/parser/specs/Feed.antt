@@ -12,6 +12,7 @@ use Prim.Native.Nat.{ℕ}
 use lib.ListN.{take, replicate}
 use Rattle.frame.specs.Frame.{noFrame, decoded}
 use Rattle.frame.specs.declared.Frame.{Frame}
+use Rattle.stream.specs.Deliver.{holds}
 use Rattle.scan.specs.Scan.{hunting, settled, unfinishedBy}
 use Rattle.step.specs.Step.{stepOf, stored}
 use Rattle.scan.specs.Start.{counted}
@@ -37,7 +38,7 @@ abbrev pub emitted : Ended → Scan → Stats → List ℕ → Moved
 emitted Is.Nothing c st buf = record { scan = c; stats = st; answer = noFrame }
 emitted (Is.Frame k n) c st buf = record {
   scan = c;
-  stats = counted (decoded 4 k (take n buf) .failed) st;
+  stats = counted (holds (decoded 4 k (take n buf) .failed)) st;
   answer = decoded 4 k (take n buf) .frame;
 }
 

@@ -3,16 +3,22 @@
 // The Rust's flat private fields stand in three parts: the buffer, the scan (where in a frame the parser is) and the
 // counters, so that a byte moves a few numbers and the buffer stays where it is.
 use frame::Frame;
+use frame::FrameKind;
 use scan::Ended;
 use scan::Scan;
 use scan::Stats;
 use step::run_at;
 use step::step_at;
+use wire::Kind;
 use wire::MAX_FRAME;
 use wire::least;
 ghost use mathlib.Core.Path.{_≡_};
+ghost use lib.ListN.{take};
+ghost use Rattle.frame.specs.Frame.{decoded};
 ghost use Rattle.stream.specs.Link.{linkMost};
-ghost use Rattle.parser.specs.Feed.{fresh, emitted, bufOf, movedOf, sliceBufOf, sliceMovedOf};
+ghost use Rattle.stream.specs.Deliver.{isFrame};
+ghost use Rattle.scan.specs.Start.{counted};
+ghost use Rattle.parser.specs.Feed.{fresh, bufOf, movedOf, sliceBufOf, sliceMovedOf};
 ghost use Rattle.parser.specs.Feed.{feedOf, feedSliceOf, resetOf, unfinishedOf};
 ghost use Rattle.parser.specs.Claims.{FromHere, Accounted, Determined};
 
@@ -54,28 +60,25 @@ pub struct FedSlice {
     pub answer: Taken,
 }
 
-// Decodes the frame that ended, if one did, and counts it.
-fn emit(buf: &[u8; MAX_FRAME], ended: Ended, scan: Scan, stats: Stats) -> Moved
-    ensures emitted { λ r. ⌜ r ≡ emitted ended scan stats (now (buf .entry)) ⌝ }
+// Decodes the frame that ended: its data stand at the front of the buffer.
+fn emit(buf: &[u8; MAX_FRAME], kind: Kind, len: usize) -> Frame
+    ensures emitted { λ r. ⌜ r ≡ decoded 4 kind (take len (now (buf .entry))) .frame ⌝ }
 {
-    match ended {
-        Ended::Frame(kind, len) => {
-            let all: &[u8] = buf;
-            let n = least(len, MAX_FRAME);
-            let decoded = Frame::decode(kind, &all[..n]);
-            let failed = decoded.failed;
-            let answer = decoded.frame;
-            Moved {
-                scan,
-                stats: stats.count(failed),
-                answer,
-            }
-        }
-        Ended::Nothing => Moved {
-            scan,
-            stats,
-            answer: Frame::none(),
-        },
+    let all: &[u8] = buf;
+    let n = least(len, MAX_FRAME);
+    let decoded = Frame::decode(kind, &all[..n]);
+    decoded.frame
+}
+
+// Counts the frame that ended: one that does not decode is answered with no frame.
+fn tally(stats: Stats, frame: Frame) -> Stats
+    ensures counted { λ r. ⌜ r ≡ counted (isFrame (frame .kind)) stats ⌝ }
+{
+    let kind = frame.kind;
+    match kind {
+        FrameKind::None => stats.count(false),
+        FrameKind::Report => stats.count(true),
+        FrameKind::Ack => stats.count(true),
     }
 }
 
@@ -88,7 +91,21 @@ fn feed_at(buf: &mut [u8; MAX_FRAME], scan: Scan, stats: Stats, byte: u8) -> Mov
     let ended = stepped.ended;
     let next = stepped.scan;
     let counted = stepped.stats;
-    emit(buf, ended, next, counted)
+    match ended {
+        Ended::Frame(kind, len) => {
+            let answer = emit(buf, kind, len);
+            Moved {
+                scan: next,
+                stats: tally(counted, answer),
+                answer,
+            }
+        }
+        Ended::Nothing => Moved {
+            scan: next,
+            stats: counted,
+            answer: Frame::none(),
+        },
+    }
 }
 
 // Bytes up to and including the end of the first whole frame, decoded or not, else all of them.
@@ -100,16 +117,25 @@ fn feed_slice_at(buf: &mut [u8; MAX_FRAME], scan: Scan, stats: Stats, bytes: &[u
     let ended = run.ended;
     let next = run.scan;
     let counted = run.stats;
-    let moved = emit(buf, ended, next, counted);
-    let left = moved.scan;
-    let stats_left = moved.stats;
-    let frame = moved.answer;
-    MovedSlice {
-        scan: left,
-        stats: stats_left,
-        answer: Taken {
-            count: run.taken,
-            frame,
+    match ended {
+        Ended::Frame(kind, len) => {
+            let frame = emit(buf, kind, len);
+            MovedSlice {
+                scan: next,
+                stats: tally(counted, frame),
+                answer: Taken {
+                    count: run.taken,
+                    frame,
+                },
+            }
+        }
+        Ended::Nothing => MovedSlice {
+            scan: next,
+            stats: counted,
+            answer: Taken {
+                count: run.taken,
+                frame: Frame::none(),
+            },
         },
     }
 }
@@ -158,17 +184,30 @@ impl Parser {
         let mut buf = self.buf;
         let scan = self.scan;
         let stats = self.stats;
-        let moved = feed_at(&mut buf, scan, stats, byte);
-        let left = moved.scan;
-        let counted = moved.stats;
-        let answer = moved.answer;
-        Fed {
-            parser: Parser {
-                buf,
-                scan: left,
-                stats: counted,
+        let stepped = step_at(&mut buf, scan, stats, byte);
+        let ended = stepped.ended;
+        let next = stepped.scan;
+        let counted = stepped.stats;
+        match ended {
+            Ended::Frame(kind, len) => {
+                let answer = emit(&buf, kind, len);
+                Fed {
+                    parser: Parser {
+                        buf,
+                        scan: next,
+                        stats: tally(counted, answer),
+                    },
+                    answer,
+                }
+            }
+            Ended::Nothing => Fed {
+                parser: Parser {
+                    buf,
+                    scan: next,
+                    stats: counted,
+                },
+                answer: Frame::none(),
             },
-            answer,
         }
     }
 
@@ -180,17 +219,36 @@ impl Parser {
         let mut buf = self.buf;
         let scan = self.scan;
         let stats = self.stats;
-        let moved = feed_slice_at(&mut buf, scan, stats, bytes);
-        let left = moved.scan;
-        let counted = moved.stats;
-        let answer = moved.answer;
-        FedSlice {
-            parser: Parser {
-                buf,
-                scan: left,
-                stats: counted,
+        let run = run_at(&mut buf, scan, stats, bytes);
+        let ended = run.ended;
+        let next = run.scan;
+        let counted = run.stats;
+        match ended {
+            Ended::Frame(kind, len) => {
+                let frame = emit(&buf, kind, len);
+                FedSlice {
+                    parser: Parser {
+                        buf,
+                        scan: next,
+                        stats: tally(counted, frame),
+                    },
+                    answer: Taken {
+                        count: run.taken,
+                        frame,
+                    },
+                }
+            }
+            Ended::Nothing => FedSlice {
+                parser: Parser {
+                    buf,
+                    scan: next,
+                    stats: counted,
+                },
+                answer: Taken {
+                    count: run.taken,
+                    frame: Frame::none(),
+                },
             },
-            answer,
         }
     }
 

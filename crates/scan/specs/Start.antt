@@ -2,15 +2,14 @@
 --   went c st          the frame in progress goes on, at c
 --   abandoned st n     the counters after a frame in progress of n bytes was given up
 --   startOf st b       the byte b, tried as the first of a header
---   counted o st       the counters after a whole frame, by the check that its data failed, if one did
+--   counted b st       the counters after a whole frame, by whether it decodes
 --   takingOf s n       the step s as what was scanned, its byte the last of n
+use mathlib.Core.Bool.{Bool, true, false}
 use Prim.Native.Nat.{ℕ}
 use Rattle.wire.specs.Counter.{bumped}
 use Rattle.wire.specs.Family.{startingWith}
 use Rattle.wire.specs.declared.MaybeKind.{MaybeKind}
 use Rattle.wire.specs.declared.MaybeKind.the-variants.{Some, None}
-use Rattle.refusal.specs.declared.MaybeCheck.{MaybeCheck}
-use Rattle.refusal.specs.declared.MaybeCheck.the-variants as Maybe
 use Rattle.scan.specs.Scan.{at, hunting}
 use Rattle.scan.specs.declared.State.the-variants.{Header}
 use Rattle.scan.specs.declared.Scan.{Scan}
@@ -48,18 +47,18 @@ unfoldable pub startOf : Stats → ℕ → Stepped
 startOf st b = startAs st (startingWith b)
 
 -- "`frames` counts whole frames that decode, `malformed` those that don't"
-abbrev pub counted : MaybeCheck → Stats → Stats
-counted (Maybe.Some c) st = record {
-  frames = st .frames;
-  resyncs = st .resyncs;
-  dropped = st .dropped;
-  malformed = bumped (st .malformed) 1;
-}
-counted Maybe.None st = record {
+abbrev pub counted : Bool → Stats → Stats
+counted true st = record {
   frames = bumped (st .frames) 1;
   resyncs = st .resyncs;
   dropped = st .dropped;
   malformed = st .malformed;
+}
+counted false st = record {
+  frames = st .frames;
+  resyncs = st .resyncs;
+  dropped = st .dropped;
+  malformed = bumped (st .malformed) 1;
 }
 
 abbrev pub takingOf : Stepped → ℕ → Scanned

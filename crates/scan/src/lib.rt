@@ -1,7 +1,6 @@
 // Where in a frame the stream parser is, and what it counts.
 //
 // A scan is a few numbers; the data bytes of the frame in progress stand in a buffer that the caller lends.
-use refusal::MaybeCheck;
 use wire::Kind;
 use wire::MAX_DATA;
 use wire::MaybeKind;
@@ -208,23 +207,24 @@ impl Stats {
         }
     }
 
-    // Counts a whole frame, by the check that its data failed, if one did.
-    pub fn count(self, failed: MaybeCheck) -> Self
-        ensures counted { λ r. ⌜ r ≡ counted failed self ⌝ }
+    // Counts a whole frame, by whether it decodes.
+    pub fn count(self, decodes: bool) -> Self
+        ensures counted { λ r. ⌜ r ≡ counted decodes self ⌝ }
     {
-        match failed {
-            MaybeCheck::Some(_) => Stats {
-                frames: self.frames,
-                resyncs: self.resyncs,
-                dropped: self.dropped,
-                malformed: bump(self.malformed, 1),
-            },
-            MaybeCheck::None => Stats {
+        if decodes {
+            Stats {
                 frames: bump(self.frames, 1),
                 resyncs: self.resyncs,
                 dropped: self.dropped,
                 malformed: self.malformed,
-            },
+            }
+        } else {
+            Stats {
+                frames: self.frames,
+                resyncs: self.resyncs,
+                dropped: self.dropped,
+                malformed: bump(self.malformed, 1),
+            }
         }
     }
 

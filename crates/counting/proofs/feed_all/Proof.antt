@@ -73,7 +73,7 @@ returns c =
     let bytes = start .before .args .bytes .now in
     let e = rest-end _ _ _ _ (c .before .loop .inv) (c .loop-test .left) in
     let all-bytes : Bytes bytes = bytes-at bytes (λ j l. omega (arith, start .shared-slice-known .given j)) in
-    (e, record { bytes = bytes; are-bytes = all-bytes; fed = e })
+    (e, all-bytes)
 
 pub feed-all-spec : {M : Type 1} → statement M
 feed-all-spec =

@@ -15,7 +15,7 @@ abbrev μ-loop : tie.MeasureT-loop
 
 -- Behind a turn: what it leaves is reached from a fresh parser, if what the loop held was.
 turned : (c : tie.After-read-some Inv-loop μ-loop) → Reached fresh (c .read-some .result .parser)
-turned c = reached-on _ _ _ (c .before .before .loop .inv) (c .read-some .ensures)
+turned c = reached-on _ _ _ (c .before .before .loop .inv) (c .read-some .ensures .reached)
 
 new-requires : tie.Need-new-requires Inv-loop μ-loop
 new-requires c κs = tt

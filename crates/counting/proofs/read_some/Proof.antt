@@ -1,5 +1,6 @@
 -- `counting::read_some` meets its contract: `feed_all` says it of what was read. Assumes nothing.
 use borrow.Author.Needs.{needs}
+use Rattle.counting.proofs.Reading.{turned-by}
 use Rattle.counting.proofs.read_some.Statement.{statement}
 use Rattle.counting.proofs.read_some.Tie as tie
 
@@ -28,7 +29,8 @@ feed-all-requires : tie.Need-feed-all-requires
 feed-all-requires c κs = search needs
 
 returns : tie.Need-returns
-returns c = c .feed-all .ensures .1
+returns c =
+    turned-by _ _ _ _ (c .before .before .count .ensures .0 .1) (c .feed-all .ensures .1) (c .feed-all .ensures .0)
 
 pub read-some-spec : {M : Type 1} → statement M
 read-some-spec =

@@ -1,3 +1,4 @@
+-- `parser::emit` meets its contract: as many bytes are decoded as the frame has, or all of the buffer. Assumes nothing.
 use borrow.Author.Needs.{needs}
 use mathlib.Core.Path.{_≡_, sym, ap, _∙_}
 use native.Mathlib.Omega.{arith}
@@ -9,48 +10,24 @@ use Rattle.wire.proofs.Prefixes.{take-least}
 use Rattle.parser.proofs.emit.Statement.{statement}
 use Rattle.parser.proofs.emit.Tie as tie
 
-enum-known-ended : tie.Need-enum-known-ended
-enum-known-ended c = search needs
-
 least-requires : tie.Need-least-requires
 least-requires c κs = search needs
 
 slice-aggregate-decode : tie.Need-slice-aggregate-decode
-slice-aggregate-decode c = sym (length-take-le _ (now (c .before .before .before .before .before .before .args .buf)) (omega (arith, c .before .least .ensures, c .before .before .all .given .0)))
+slice-aggregate-decode c =
+    let least = c .before .least in
+    sym (length-take-le (least .result) (now (c .before .before .before .args .buf))
+    (omega (arith, least .ensures, c .before .before .all .given .0)))
 
 decode-requires : tie.Need-decode-requires
 decode-requires c κs = search needs
 
-count-requires : tie.Need-count-requires
-count-requires c κs = search needs
-
-enum-told : tie.Need-enum-told
-enum-told c = search needs
-
-none-requires : tie.Need-none-requires
-none-requires c κs = search needs
-
 returns : tie.Need-returns
 returns c =
-    let buf = now (c .before .before .before .before .before .before .before .before .before .args .buf) in
-    let n = c .before .before .before .before .before .before .before .ended .given .0 .1 .0 in
-    let all : take (c .before .before .before .before .least .result) buf ≡ take n buf =
-    ap (λ i. take i buf) (c .before .before .before .before .least .ensures ∙ ap (min n) (sym (c .before .before .before .before .before .all .given .0))) ∙ take-least n buf in
-    rw (c .before .before .before .before .before .before .before .ended .given .1, c .count .ensures, c .before .before .decode .ensures, all)
-
-returns-2 : tie.Need-returns-2
-returns-2 c = rw (c .before .enum-told .given .1, c .none .ensures)
+    let a = c .before .before .before .before .before .args in
+    let least = c .before .before .before .least in
+    let length : least .result ≡ min (a .len) _ = least .ensures ∙ ap (min (a .len)) (sym (c .before .before .before .before .all .given .0)) in
+    rw (c .before .decode .ensures, length, take-least (a .len) (now (a .buf)))
 
 pub emit-spec : {M : Type 1} → statement M
-emit-spec =
-    tie.close
-    (tie.spec
-    enum-known-ended
-    least-requires
-    slice-aggregate-decode
-    decode-requires
-    count-requires
-    enum-told
-    none-requires
-    returns
-    returns-2)
+emit-spec = tie.close (tie.spec least-requires slice-aggregate-decode decode-requires returns)

@@ -1,20 +1,54 @@
 -- `parser::feed_at` meets its contract: what the step ended is emitted. Assumes nothing.
 use borrow.Author.Needs.{needs}
 use Rattle.parser.specs.Feed.{movedOf, bufOf}
+use Rattle.parser.proofs.Emits.{emits-frame, emits-none}
 use Rattle.parser.proofs.feed_at.Statement.{statement}
 use Rattle.parser.proofs.feed_at.Tie as tie
 
 step-at-requires : tie.Need-step-at-requires
 step-at-requires c κs = search needs
 
+enum-known-ended : tie.Need-enum-known-ended
+enum-known-ended c = search needs
+
 emit-requires : tie.Need-emit-requires
 emit-requires c κs = search needs
+
+tally-requires : tie.Need-tally-requires
+tally-requires c κs = search needs
+
+enum-told : tie.Need-enum-told
+enum-told c = search needs
+
+none-requires : tie.Need-none-requires
+none-requires c κs = search needs
 
 returns : tie.Need-returns
 unfolding movedOf bufOf
 returns c =
-    let stepped = c .before .before .before .before .step-at .ensures in
-    (rw (c .emit .ensures, stepped .0, stepped .1), stepped .1)
+    let ran = c .before .before .before .before .before .before .before .before .step-at in
+    let found = c .before .before .before .before .ended .given in
+    let made = emits-frame (ran .result .scan) (ran .result .stats) (ran .last .0) (ran .result .ended) (found .0 .0)
+    (found .0 .1 .0) _ _ (found .1) (c .before .emit .ensures) (c .tally .ensures) in
+    (rw (← ran .ensures .0, ← ran .ensures .1) made, ran .ensures .1)
+
+returns-2 : tie.Need-returns-2
+unfolding movedOf bufOf
+returns-2 c =
+    let ran = c .before .before .before .before .before .step-at in
+    let made = emits-none (ran .result .scan) (ran .result .stats) (ran .last .0) (ran .result .ended) _
+    (c .before .enum-told .given .1) (c .none .ensures) in
+    (rw (← ran .ensures .0, ← ran .ensures .1) made, ran .ensures .1)
 
 pub feed-at-spec : {M : Type 1} → statement M
-feed-at-spec = tie.close (tie.spec step-at-requires emit-requires returns)
+feed-at-spec =
+    tie.close
+    (tie.spec
+    step-at-requires
+    enum-known-ended
+    emit-requires
+    tally-requires
+    enum-told
+    none-requires
+    returns
+    returns-2)

@@ -1,20 +1,54 @@
 -- `parser::feed_slice_at` meets its contract: what the run ended is emitted. Assumes nothing.
 use borrow.Author.Needs.{needs}
 use Rattle.parser.specs.Feed.{sliceMovedOf, sliceBufOf}
+use Rattle.parser.proofs.Emits.{emits-frame, emits-none}
 use Rattle.parser.proofs.feed_slice_at.Statement.{statement}
 use Rattle.parser.proofs.feed_slice_at.Tie as tie
 
 run-at-requires : tie.Need-run-at-requires
 run-at-requires c κs = search needs
 
+enum-known-ended : tie.Need-enum-known-ended
+enum-known-ended c = search needs
+
 emit-requires : tie.Need-emit-requires
 emit-requires c κs = search needs
+
+tally-requires : tie.Need-tally-requires
+tally-requires c κs = search needs
+
+enum-told : tie.Need-enum-told
+enum-told c = search needs
+
+none-requires : tie.Need-none-requires
+none-requires c κs = search needs
 
 returns : tie.Need-returns
 unfolding sliceMovedOf sliceBufOf
 returns c =
-    let run = c .before .before .before .before .before .before .before .run-at .ensures in
-    (rw (c .before .before .before .emit .ensures, run .0, run .1), run .1)
+    let ran = c .before .before .before .before .before .before .before .before .run-at in
+    let found = c .before .before .before .before .ended .given in
+    let made = emits-frame (ran .result .scan) (ran .result .stats) (ran .last .0) (ran .result .ended) (found .0 .0)
+    (found .0 .1 .0) _ _ (found .1) (c .before .emit .ensures) (c .tally .ensures) in
+    (rw (← ran .ensures .0, ← ran .ensures .1, ← made), ran .ensures .1)
+
+returns-2 : tie.Need-returns-2
+unfolding sliceMovedOf sliceBufOf
+returns-2 c =
+    let ran = c .before .before .before .before .before .run-at in
+    let made = emits-none (ran .result .scan) (ran .result .stats) (ran .last .0) (ran .result .ended) _
+    (c .before .enum-told .given .1) (c .none .ensures) in
+    (rw (← ran .ensures .0, ← ran .ensures .1, ← made), ran .ensures .1)
 
 pub feed-slice-at-spec : {M : Type 1} → statement M
-feed-slice-at-spec = tie.close (tie.spec run-at-requires emit-requires returns)
+feed-slice-at-spec =
+    tie.close
+    (tie.spec
+    run-at-requires
+    enum-known-ended
+    emit-requires
+    tally-requires
+    enum-told
+    none-requires
+    returns
+    returns-2)

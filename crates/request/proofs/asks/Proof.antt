@@ -1,4 +1,4 @@
--- `command::reader::asks` meets its contract. Assumes nothing.
+-- `request::asks` meets its contract. Assumes nothing.
 use mathlib.Core.Path.{sym, _∙_}
 use borrow.Author.Tests.{not-true, not-false, le-leb, lt-leb}
 use Rattle.request.specs.Asking.{asks}

@@ -1,4 +1,4 @@
--- `command::reader::is_frame` meets its contract: each test is one of a frame's parts. Assumes nothing.
+-- `request::is_frame` meets its contract: each test is one of a frame's parts. Assumes nothing.
 use mathlib.Core.Path.{sym, _∙_}
 use native.Mathlib.Omega.{arith}
 use Prim.Native.Nat.{_+_, _-_}

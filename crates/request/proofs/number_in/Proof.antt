@@ -1,4 +1,4 @@
--- `command::reader::number_in` meets its contract. Assumes nothing.
+-- `request::number_in` meets its contract. Assumes nothing.
 use mathlib.Core.Path.{sym, ap, _∙_}
 use Rattle.request.specs.Asking.{orZero, numberIn}
 use borrow.Author.Needs.{needs}

@@ -1,4 +1,4 @@
--- `command::are_sensitivities` meets its contract. Assumes nothing.
+-- `setting::are_sensitivities` meets its contract. Assumes nothing.
 use borrow.Author.Tests.{le-leb, lt-leb}
 use Rattle.setting.proofs.are_sensitivities.Statement.{statement}
 use Rattle.setting.proofs.are_sensitivities.Tie as tie

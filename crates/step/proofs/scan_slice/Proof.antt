@@ -1,4 +1,4 @@
--- `scan::scan_slice` meets its contract. The loop's invariant is `Left`: what is left of the bytes, run from here,
+-- `step::scan_slice` meets its contract. The loop's invariant is `Left`: what is left of the bytes, run from here,
 -- comes to what all of them come to. The measure is their number. Assumes nothing.
 use borrow.Author.Needs.{needs}
 use mathlib.Core.Path.{_≡_, refl, ap}

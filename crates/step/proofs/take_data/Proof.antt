@@ -1,4 +1,4 @@
--- `scan::take_data` meets its contract. The loop's invariant is `Copied`: with j bytes copied, the run from here is
+-- `step::take_data` meets its contract. The loop's invariant is `Copied`: with j bytes copied, the run from here is
 -- the run from the start. The measure is what is left to copy. Assumes nothing.
 use borrow.Author.Needs.{needs}
 use mathlib.Core.Path.{_≡_, refl}

@@ -1,4 +1,4 @@
--- `scan::take_header` meets its contract. The loop's invariant is `Within`: it stands in a header, and the run from
+-- `step::take_header` meets its contract. The loop's invariant is `Within`: it stands in a header, and the run from
 -- here is the run from the start. The measure is what is left of the bytes. Assumes nothing.
 use borrow.Author.Needs.{needs}
 use mathlib.Core.Path.{_≡_, refl}

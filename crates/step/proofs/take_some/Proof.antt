@@ -1,4 +1,4 @@
--- `scan::take_some` meets its contract, since what each state takes does. Assumes nothing.
+-- `step::take_some` meets its contract, since what each state takes does. Assumes nothing.
 use borrow.Author.Needs.{needs}
 use Rattle.step.proofs.take_some.Statement.{statement}
 use Rattle.step.proofs.take_some.Tie as tie

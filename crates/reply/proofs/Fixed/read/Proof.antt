@@ -1,4 +1,4 @@
--- `ack::Fixed::read` meets its contract: each byte is there, or the payload is shorter than four. Assumes nothing.
+-- `reply::Fixed::read` meets its contract: each byte is there, or the payload is shorter than four. Assumes nothing.
 use borrow.Author.Needs.{needs}
 use mathlib.Core.Path.{sym, _∙_}
 use native.Mathlib.Omega.{arith}

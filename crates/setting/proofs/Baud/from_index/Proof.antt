@@ -1,4 +1,4 @@
--- `command::Baud::from_index` meets its contract: each arm's pattern decides the tests of `baudOf`. Assumes nothing.
+-- `setting::Baud::from_index` meets its contract: each arm's pattern decides the tests of `baudOf`. Assumes nothing.
 use borrow.Author.Tests.{ne-eqb}
 use Rattle.setting.proofs.Baud.from_index.Statement.{statement}
 use Rattle.setting.proofs.Baud.from_index.Tie as tie

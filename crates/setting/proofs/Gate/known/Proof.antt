@@ -1,4 +1,4 @@
--- `command::Gate::known` meets its contract. Assumes nothing.
+-- `setting::Gate::known` meets its contract. Assumes nothing.
 use borrow.Author.Needs.{needs}
 use Rattle.setting.proofs.Gate.known.Statement.{statement}
 use Rattle.setting.proofs.Gate.known.Tie as tie
