@@ -1,3 +1,5 @@
+-- What is emitted where a frame ended, and where none did.
+pub mod Emitted
 -- A byte fed does what the scanner's step does.
 pub mod Feeding
 -- A slice fed does what its bytes do, fed one by one.
@@ -16,6 +18,8 @@ pub mod Extra
 pub mod Answers
 -- The contracts of feeds and of resets.
 pub mod Contracts
+-- From a function's code to its routine.
+pub mod Carried
 -- A feed of a parser that is lent.
 pub mod LentFeed
 -- A reset of a parser that is lent.

@@ -1,4 +1,4 @@
--- `report::extra_array` meets its contract. Assumes nothing.
+-- `engineering::extra_array` meets its contract. Assumes nothing.
 use mathlib.Core.Path.{_∙_}
 use borrow.Author.Needs.{needs}
 use Rattle.wire.proofs.Prefixes.{prefixed-zeros}

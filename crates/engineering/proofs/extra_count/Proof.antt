@@ -1,4 +1,4 @@
--- `report::extra_count` meets its contract. Assumes nothing.
+-- `engineering::extra_count` meets its contract. Assumes nothing.
 use borrow.Author.Needs.{needs}
 use Rattle.engineering.proofs.extra_count.Statement.{statement}
 use Rattle.engineering.proofs.extra_count.Tie as tie

@@ -1,4 +1,4 @@
--- `report::no_block` meets its contract. Assumes nothing.
+-- `engineering::no_block` meets its contract. Assumes nothing.
 use borrow.Author.Needs.{needs}
 use Rattle.engineering.proofs.no_block.Statement.{statement}
 use Rattle.engineering.proofs.no_block.Tie as tie

@@ -1,7 +1,7 @@
 use borrow.Author.Needs.{needs}
 use mathlib.Core.Path.{_≡_, sym, ap, _∙_}
 use native.Mathlib.Omega.{arith}
-use Prim.Native.Nat.{ℕ, min}
+use Prim.Native.Nat.{min}
 use lib.ListN.{take}
 use lib.Seq.{length-take-le}
 use denote.Ref.{now}
@@ -16,7 +16,9 @@ least-requires : tie.Need-least-requires
 least-requires c κs = search needs
 
 slice-aggregate-decode : tie.Need-slice-aggregate-decode
-slice-aggregate-decode c = sym (length-take-le _ (now (c .before .before .before .before .before .before .args .buf)) (omega (arith, c .before .least .ensures, c .before .before .all .given .0)))
+slice-aggregate-decode c =
+    let buf = now (c .before .before .before .before .before .before .args .buf) in
+    sym (length-take-le _ buf (omega (arith, c .before .least .ensures, c .before .before .all .given .0)))
 
 decode-requires : tie.Need-decode-requires
 decode-requires c κs = search needs
@@ -32,11 +34,13 @@ none-requires c κs = search needs
 
 returns : tie.Need-returns
 returns c =
-    let buf = now (c .before .before .before .before .before .before .before .before .before .args .buf) in
-    let n = c .before .before .before .before .before .before .before .ended .given .0 .1 .0 in
-    let all : take (c .before .before .before .before .least .result) buf ≡ take n buf =
-    ap (λ i. take i buf) (c .before .before .before .before .least .ensures ∙ ap (min n) (sym (c .before .before .before .before .before .all .given .0))) ∙ take-least n buf in
-    rw (c .before .before .before .before .before .before .before .ended .given .1, c .count .ensures, c .before .before .decode .ensures, all)
+    let sized = c .before .before .before .before in
+    let told = sized .before .before .before in
+    let buf = now (told .before .before .args .buf) in
+    let n = told .ended .given .0 .1 .0 in
+    let size = sized .least .ensures ∙ ap (min n) (sym (sized .before .all .given .0)) in
+    let all : take (sized .least .result) buf ≡ take n buf = ap (λ i. take i buf) size ∙ take-least n buf in
+    rw (told .ended .given .1, c .count .ensures, c .before .before .decode .ensures, all)
 
 returns-2 : tie.Need-returns-2
 returns-2 c = rw (c .before .enum-told .given .1, c .none .ensures)

@@ -1,4 +1,4 @@
--- `scan::header_byte` meets its contract: a header's bytes count down. Assumes nothing.
+-- `step::header_byte` meets its contract: a header's bytes count down. Assumes nothing.
 use borrow.Author.Needs.{needs}
 use Rattle.step.proofs.Words.{counts-down}
 use Rattle.step.proofs.header_byte.Statement.{statement}

@@ -1,4 +1,4 @@
--- `scan::run_at` meets its contract: a settled scan is in order. Assumes nothing.
+-- `step::run_at` meets its contract: a settled scan is in order. Assumes nothing.
 use borrow.Author.Needs.{needs}
 use Rattle.scan.proofs.Orders.{settled-order}
 use Rattle.step.proofs.run_at.Statement.{statement}

@@ -1,4 +1,4 @@
--- `scan::step` meets its contract: a scan in order has what the step of its state requires. Assumes nothing.
+-- `step::step` meets its contract: a scan in order has what the step of its state requires. Assumes nothing.
 use borrow.Author.Needs.{needs}
 use mathlib.Core.Path.{_∙_}
 use Rattle.stream.specs.Link.{linkMost}

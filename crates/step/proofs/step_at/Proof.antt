@@ -1,4 +1,4 @@
--- `scan::step_at` meets its contract: a settled scan is in order. Assumes nothing.
+-- `step::step_at` meets its contract: a settled scan is in order. Assumes nothing.
 use borrow.Author.Needs.{needs}
 use Rattle.scan.proofs.Orders.{settled-order}
 use Rattle.step.proofs.step_at.Statement.{statement}

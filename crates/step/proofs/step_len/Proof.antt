@@ -1,4 +1,4 @@
--- `scan::step_len` meets its contract: each way through it has its law. Assumes nothing.
+-- `step::step_len` meets its contract: each way through it has its law. Assumes nothing.
 use borrow.Author.Needs.{needs}
 use mathlib.Core.Path.{sym, _∙_}
 use Rattle.stream.specs.Link.{linkMost}

@@ -1,4 +1,4 @@
--- `scan::store` meets its contract: a scan in order has room for a data byte. Assumes nothing.
+-- `step::store` meets its contract: a scan in order has room for a data byte. Assumes nothing.
 use borrow.Author.Needs.{needs}
 use mathlib.Core.Path.{_≡_}
 use mathlib.Core.Logic.{_⊎_, ⊎-elim}

@@ -1,4 +1,4 @@
--- `scan::tail_byte` meets its contract: a tail's bytes count down. Assumes nothing.
+-- `step::tail_byte` meets its contract: a tail's bytes count down. Assumes nothing.
 use borrow.Author.Needs.{needs}
 use Rattle.step.proofs.Words.{counts-down}
 use Rattle.step.proofs.tail_byte.Statement.{statement}

@@ -1,4 +1,4 @@
--- `report::Engineering::extra` meets its contract. Assumes nothing.
+-- `engineering::Engineering::extra` meets its contract. Assumes nothing.
 use borrow.Author.Needs.{needs}
 use Rattle.engineering.proofs.Engineering.extra.Statement.{statement}
 use Rattle.engineering.proofs.Engineering.extra.Tie as tie

@@ -1,4 +1,4 @@
--- `ack::EnableConfig::read` meets its contract. Assumes nothing.
+-- `reply::EnableConfig::read` meets its contract. Assumes nothing.
 use borrow.Author.Needs.{needs}
 use mathlib.Core.Path.{sym, _∙_}
 use native.Mathlib.Omega.{arith}

@@ -1,4 +1,4 @@
--- `ack::FirmwareVersion::read` meets its contract. Assumes nothing.
+-- `reply::FirmwareVersion::read` meets its contract. Assumes nothing.
 use borrow.Author.Needs.{needs}
 use mathlib.Core.Path.{sym, _∙_}
 use native.Mathlib.Omega.{arith}

@@ -1,4 +1,4 @@
--- `ack::Mac::read` meets its contract: where the sixth byte is there, the copy fills the array. Assumes nothing.
+-- `reply::Mac::read` meets its contract: where the sixth byte is there, the copy fills the array. Assumes nothing.
 use borrow.Author.Needs.{needs}
 use mathlib.Core.Path.{sym, _∙_}
 use native.Mathlib.Omega.{arith}

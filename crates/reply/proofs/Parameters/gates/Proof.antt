@@ -1,4 +1,4 @@
--- `ack::Parameters::gates` meets its contract, as `least` says. Assumes nothing.
+-- `reply::Parameters::gates` meets its contract, as `least` says. Assumes nothing.
 use borrow.Author.Needs.{needs}
 use Rattle.reply.proofs.Parameters.gates.Statement.{statement}
 use Rattle.reply.proofs.Parameters.gates.Tie as tie

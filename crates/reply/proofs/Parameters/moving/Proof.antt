@@ -1,4 +1,4 @@
--- `ack::Parameters::moving` meets its contract. Assumes nothing.
+-- `reply::Parameters::moving` meets its contract. Assumes nothing.
 use borrow.Author.Needs.{needs}
 use Rattle.reply.proofs.Parameters.moving.Statement.{statement}
 use Rattle.reply.proofs.Parameters.moving.Tie as tie

@@ -1,4 +1,4 @@
--- `ack::Parameters::read` meets its contract: the first four bytes say where the parts are. Assumes nothing.
+-- `reply::Parameters::read` meets its contract: the first four bytes say where the parts are. Assumes nothing.
 use borrow.Author.Needs.{needs}
 use mathlib.Core.Path.{sym, _∙_}
 use native.Mathlib.Omega.{arith}

@@ -1,4 +1,4 @@
--- `ack::Parameters::stationary` meets its contract. Assumes nothing.
+-- `reply::Parameters::stationary` meets its contract. Assumes nothing.
 use borrow.Author.Needs.{needs}
 use Rattle.reply.proofs.Parameters.stationary.Statement.{statement}
 use Rattle.reply.proofs.Parameters.stationary.Tie as tie

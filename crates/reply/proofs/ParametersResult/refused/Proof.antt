@@ -1,4 +1,4 @@
--- `ack::ParametersResult::refused` meets its contract, field by field. Assumes nothing.
+-- `reply::ParametersResult::refused` meets its contract, field by field. Assumes nothing.
 use mathlib.Core.Path.{refl}
 use Rattle.reply.proofs.ParametersResult.refused.Statement.{statement}
 use Rattle.reply.proofs.ParametersResult.refused.Tie as tie

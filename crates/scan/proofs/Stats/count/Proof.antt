@@ -1,9 +1,6 @@
 use borrow.Author.Needs.{needs}
 use Rattle.scan.proofs.Stats.count.Statement.{statement}
 use Rattle.scan.proofs.Stats.count.Tie as tie
-use Rattle.scan.proofs.Stats.count.Reads as reads
-use Rattle.scan.proofs.Stats.count.Lts as lts
-use Rattle.wire.proofs.bump.Reads as bump-reads
 
 enum-told : tie.Need-enum-told
 enum-told c = search needs

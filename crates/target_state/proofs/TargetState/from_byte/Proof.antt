@@ -1,4 +1,4 @@
--- `report::TargetState::from_byte` meets its contract: each arm's pattern is what the two lowest bits are.
+-- `target_state::TargetState::from_byte` meets its contract: each arm's pattern is what the two lowest bits are.
 -- Assumes nothing.
 use mathlib.Core.Path.{sym}
 use native.Mathlib.Omega.{arith}

@@ -1,0 +1,73 @@
+// The parser by value: taken, fed or reset, and handed back.
+use super::Fed;
+use super::FedSlice;
+use super::Parser;
+use super::feed_at;
+use super::feed_slice_at;
+use scan::Scan;
+ghost use mathlib.Core.Path.{_≡_};
+ghost use Rattle.stream.specs.Link.{linkMost};
+ghost use Rattle.parser.specs.Feed.{feedOf, feedSliceOf, resetOf};
+ghost use Rattle.parser.specs.Claims.{FromHere, Determined};
+
+impl Parser {
+    // Feeds one received byte; the answer is the frame that this byte completed, or no frame. A parser with a field out
+    // of range is handled as if reset came first.
+    pub fn fed(self, byte: u8) -> Fed
+        ensures fed { λ r. ⌜ r ≡ feedOf linkMost self byte ⌝ }
+    {
+        let mut buf = self.buf;
+        let scan = self.scan;
+        let stats = self.stats;
+        let moved = feed_at(&mut buf, scan, stats, byte);
+        let left = moved.scan;
+        let counted = moved.stats;
+        let answer = moved.answer;
+        Fed {
+            parser: Parser {
+                buf,
+                scan: left,
+                stats: counted,
+            },
+            answer,
+        }
+    }
+
+    // Feeds bytes up to and including the end of the first whole frame, decoded or not, else all of them; the answer
+    // tells how many, and the frame. Call again with the rest.
+    pub fn fed_slice(self, bytes: &[u8]) -> FedSlice
+        ensures fed { λ r. ⌜ r ≡ feedSliceOf linkMost self (now (bytes .entry)) ⌝ }
+    {
+        let mut buf = self.buf;
+        let scan = self.scan;
+        let stats = self.stats;
+        let moved = feed_slice_at(&mut buf, scan, stats, bytes);
+        let left = moved.scan;
+        let counted = moved.stats;
+        let answer = moved.answer;
+        FedSlice {
+            parser: Parser {
+                buf,
+                scan: left,
+                stats: counted,
+            },
+            answer,
+        }
+    }
+
+    // Forgets a frame in progress and looks for a header again. The counters are kept. From what it returns, whatever
+    // parser it was given, every list of calls fulfils demand 3.
+    pub fn cleared(self) -> Self
+        ensures reset { λ r. ⌜ r ≡ resetOf self ⌝ }
+        ensures fulfilled { λ r. ⌜ FromHere r ⌝ }
+        ensures determined { λ r. ⌜ Determined r ⌝ }
+    {
+        let buf = self.buf;
+        let stats = self.stats;
+        Parser {
+            buf,
+            scan: Scan::hunting(),
+            stats,
+        }
+    }
+}
