@@ -1,8 +1,8 @@
 -- The acknowledgement that is written, beside the one that the reader of frames gives.
 --   acknowledged a          the reader's answer that gives the acknowledgement a
 --   ackWith w ok s n        the acknowledgement of a frame with a payload of n bytes
---   Reads f w ok s p        f is read as this value: the reader gives its word, `ok` and status for f, and the bytes of f
---                           at the span that it gives are the payload p
+--   Reads f w ok s p        f is read as this value: the reader gives its word, `ok` and status for f, and the bytes
+--                           of f at the span that it gives are the payload p
 --   ReadBack w ok s p r l   where the writer of this value answered r and left l: what was written is read as the value
 --   Unread w ok s p         no frame of at most 54 data bytes is read as the value
 --   Exact w ok s p r        the writer's answer r is 6 exactly if none is

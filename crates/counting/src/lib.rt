@@ -47,8 +47,8 @@ fn read_some(fd: i32, parser: Parser) -> Turn
     }
 }
 
-// Feeds all that can be read from `fd` to a fresh parser. A proved loop has to end, and nothing says that an input does.
-// So the loop counts its turns down, from a number that no run uses up.
+// Feeds all that can be read from `fd` to a fresh parser. A proved loop has to end, and nothing says that an input
+// does. So the loop counts its turns down, from a number that no run uses up.
 pub fn read_all(fd: i32) -> Parser
     ensures reached { λ r. ⌜ Reached fresh r ⌝ }
 {
@@ -91,8 +91,8 @@ impl Counts {
     }
 }
 
-// Prints the line `frames resyncs dropped malformed unfinished`: decimal, one space between, a line feed after. Answers the
-// numbers on it; no contract can name what is printed.
+// Prints the line `frames resyncs dropped malformed unfinished`: decimal, one space between, a line feed after. Answers
+// the numbers on it; no contract can name what is printed.
 pub fn print_counts(fd: i32, parser: Parser) -> Counts
     ensures told { λ r. ⌜ r ≡ countsOf parser ⌝ }
 {

@@ -1,6 +1,6 @@
-// Holds the readers and the encoder against the documents: it reads the bytes that document 01 and the maker's documents
-// print, writes the commands that they print, and puts out a line for each. The file stdout beside src/ has what the
-// documents say of them, written by hand.
+// Holds the readers and the encoder against the documents: it reads the bytes that document 01 and the maker's
+// documents print, writes the commands that they print, and puts out a line for each. The file stdout beside src/ has
+// what the documents say of them, written by hand.
 use command::Command;
 use frame::FrameKind;
 use setting::Baud;

@@ -1,15 +1,15 @@
 -- The reader's answer by the checks of the framing, one after another.
-use mathlib.Core.Path.{_≡_, refl, sym, ap, _∙_}
-use mathlib.Core.List.{List, [], _∷_, _++_, map}
-use mathlib.Core.Bool.{Bool, true, false}
+use mathlib.Core.Path.{_≡_, refl, ap}
+use mathlib.Core.List.{List, [], _∷_}
+use mathlib.Core.Bool.{true, false}
 use Prim.Native.Nat.{ℕ, _+_, _≤_, _<_}
 use native.Mathlib.Omega.{arith}
 use lib.ListN.{length, take, drop, length-take}
 use borrow.Author.Tests.{le-leb, lt-leb}
 use Rattle.wire.specs.Equal.{sameBytes}
-use Rattle.wire.specs.Family.{header, tail, headerOf}
+use Rattle.wire.specs.Family.{tail}
 use Rattle.wire.proofs.Families.{header-sound, header-length}
-use Rattle.refusal.specs.Check.{Checks, orFailed, firstFailed, outcomeOf, Causes}
+use Rattle.refusal.specs.Check.{Checks, orFailed, firstFailed, Causes}
 use Rattle.refusal.proofs.Checks.{causes}
 use Rattle.wire.specs.declared.Kind.{Kind}
 use Rattle.refusal.specs.declared.Check.the-variants.{F1, F2, F3, F4}
@@ -17,8 +17,8 @@ use Rattle.refusal.specs.declared.MaybeCheck.{MaybeCheck}
 use Rattle.refusal.specs.declared.MaybeCheck.the-variants as Maybe
 use Rattle.wire.specs.declared.MaybeKind.{MaybeKind}
 use Rattle.wire.specs.declared.MaybeKind.the-variants as Found
-use Rattle.frame.specs.Frame.{family, announced, dataOf, bodyChecks, onData, checksFor, frameOf, failingFrame, frameIf}
-use Rattle.frame.specs.Frame.{decoded, frameAs, checkedFrame, parsedFrame}
+use Rattle.frame.specs.Frame.{family, announced, dataOf, bodyChecks, onData, checksFor}
+use Rattle.frame.specs.Frame.{failingFrame, frameIf, decoded, frameAs, checkedFrame, parsedFrame}
 use Rattle.frame.specs.declared.Frame.{Frame}
 
 -- Checks of the data, made on the frame that holds them.

@@ -1,16 +1,15 @@
 -- What the data of a frame are read as, by their family: the readers of reports and of acknowledgements.
-use mathlib.Core.Path.{_≡_, refl, sym, ap, _∙_}
+use mathlib.Core.Path.{_≡_, sym, ap, _∙_}
 use mathlib.Core.List.{List}
 use Prim.Native.Nat.{ℕ}
 use Rattle.refusal.specs.Check.{firstFailed}
 use Rattle.refusal.specs.declared.Check.{Check}
-use Rattle.refusal.specs.declared.MaybeCheck.{MaybeCheck}
 use Rattle.refusal.specs.declared.MaybeCheck.the-variants as Maybe
 use Rattle.wire.specs.declared.Kind.the-variants.{Report, Command}
 use Rattle.report.specs.Check.{reportChecks, checkedAs, checkedReport}
 use Rattle.report.specs.Report.{reportOf, noReport}
 use Rattle.report.proofs.Answers.{checked-failed}
-use Rattle.ack.specs.Ack.{ackChecks, checkedAck}
+use Rattle.ack.specs.Ack.{checkedAck}
 use Rattle.ack.specs.declared.Ack.{Ack}
 use Rattle.ack.specs.declared.CheckedAck.the-variants as Checked
 use Rattle.ack.proofs.Reading.{passed-sound, failed-sound}

@@ -1,12 +1,10 @@
 -- What is framed is read as its data are: the framing's checks hold of it, and its data are those that were framed.
 use mathlib.Core.Path.{_≡_, refl, sym, ap, _∙_}
-use mathlib.Core.List.{List, [], _∷_, _++_}
-use mathlib.Core.Bool.{true}
-use Prim.Native.Nat.{ℕ, _+_, _≤_, _<_}
+use mathlib.Core.List.{List, _++_}
+use Prim.Native.Nat.{ℕ, _+_, _<_}
 use native.Mathlib.Omega.{arith}
 use lib.ListN.{length, take, drop, length-append}
 use lib.Seq.{take-at, drop-at, drop-drop}
-use Rattle.wire.specs.Equal.{sameBytes}
 use Rattle.wire.proofs.Equality.{same-complete}
 use Rattle.wire.specs.Number.{little, leBytes}
 use Rattle.wire.specs.Family.{header, tail, headerOf, framed}
@@ -17,13 +15,17 @@ use Rattle.frame.specs.Frame.{family, announced, dataOf, decoded, checke
 use Rattle.frame.proofs.Answers.{passes-framing}
 
 module _ (k : Kind) (d : List ℕ) where
+  -- All that stands behind the header.
+  abbrev behind : List ℕ
+  behind = leBytes 2 (length d) ++ (d ++ tail k)
+
   pub framed-family : family (framed k d) ≡ Found.Some k
   unfolding framed
-  framed-family = ap headerOf (take-at (header k) (leBytes 2 (length d) ++ (d ++ tail k)) 4 (header-length k)) ∙ header-complete k
+  framed-family = ap headerOf (take-at (header k) behind 4 (header-length k)) ∙ header-complete k
 
-  framed-behind : drop 4 (framed k d) ≡ leBytes 2 (length d) ++ (d ++ tail k)
+  framed-behind : drop 4 (framed k d) ≡ behind
   unfolding framed
-  framed-behind = drop-at (header k) (leBytes 2 (length d) ++ (d ++ tail k)) 4 (header-length k)
+  framed-behind = drop-at (header k) behind 4 (header-length k)
 
   pub framed-data : drop 6 (framed k d) ≡ d ++ tail k
   framed-data = sym (drop-drop 2 4 (framed k d)) ∙ ap (λ s. drop 2 s) framed-behind
@@ -36,7 +38,7 @@ module _ (k : Kind) (d : List ℕ) where
   unfolding framed
   framed-length = omega (
     arith,
-    length-append (header k) (leBytes 2 (length d) ++ (d ++ tail k)),
+    length-append (header k) behind,
     header-length k,
     length-append d (tail k),
     tail-length k,

@@ -1,12 +1,12 @@
--- Whole frames: "F1 header is F4 F3 F2 F1 (report) or FD FC FB FA (command); F2 two length bytes; F3 that many data bytes,
--- 0 to 65,535; F4 the rest is exactly the tail. Then the body's checks."
+-- Whole frames: "F1 header is F4 F3 F2 F1 (report) or FD FC FB FA (command); F2 two length bytes; F3 that many data
+-- bytes, 0 to 65,535; F4 the rest is exactly the tail. Then the body's checks."
 --   family s          the family that the header of s announces, if it is one
 --   announced s       the length that s announces
 --   dataOf s          that many bytes behind the length
 --   f1 .. f4          the checks, and frameChecks, F1 to F4 in this order
 --   bodyChecks k      the checks of a body of the family k
 --   checksFor s       all that is checked of s, in order: F1 to F4, then the body's, on the data, for the family of s
---   frameOf i k d     the frame of the family k that the data d are read as, an acknowledgement's payload beginning at i
+--   frameOf i k d     the frame of the family k that the data d are read as, an acknowledgement's payload from i on
 --   noAck, noFrame    every field 0
 --   decoded i k d     the answer for the data d alone: the first check that fails, or the frame
 --   checkedFrame s    the answer for a whole frame
@@ -18,7 +18,7 @@ use lib.Dec.{leb}
 use lib.ListN.{length, take, drop}
 use Rattle.wire.specs.Equal.{sameBytes}
 use Rattle.wire.specs.Number.{little}
-use Rattle.wire.specs.Family.{header, tail, headerOf}
+use Rattle.wire.specs.Family.{tail, headerOf}
 use Rattle.refusal.specs.Check.{Checks, firstFailed, outcomeOf}
 use Rattle.wire.specs.declared.Kind.{Kind}
 use Rattle.wire.specs.declared.Kind.the-variants as Family

@@ -1,7 +1,8 @@
-// Whole frames of the LD2410: header, length, data and tail, with nothing before or after, and the body that the data are.
+// Whole frames of the LD2410: header, length, data and tail, with nothing before or after, and the body that the data
+// are.
 //
-// The Rust's `Frame` borrows an acknowledgement's payload. Here a frame is a kind beside a report and an acknowledgement, of
-// which the unused one is all 0, and the payload is a span of the bytes that were read.
+// The Rust's `Frame` borrows an acknowledgement's payload. Here a frame is a kind beside a report and an
+// acknowledgement, of which the unused one is all 0, and the payload is a span of the bytes that were read.
 use ack::Ack;
 use ack::CheckedAck;
 use ack::Span;
@@ -156,8 +157,8 @@ impl Frame {
         }
     }
 
-    // Decodes one whole frame and gives the first check that it fails: F1 to F4, then the body's. A payload's span counts
-    // in `bytes`. The stream's limits on the length do not hold here: the data may have 0 to 65,535 bytes.
+    // Decodes one whole frame and gives the first check that it fails: F1 to F4, then the body's. A payload's span
+    // counts in `bytes`. The stream's limits on the length do not hold here: the data may have 0 to 65,535 bytes.
     pub fn checked(bytes: &[u8]) -> CheckedFrame
         ensures checked { λ r. ⌜ r ≡ checkedFrame (now (bytes .entry)) ⌝ }
     {
@@ -181,8 +182,8 @@ impl Frame {
         Frame::decode_at(kind, &bytes[DATA_START..end], DATA_START + PAYLOAD_START)
     }
 
-    // Decodes one whole frame held in `bytes`. Refuses with 1 where F1 to F4 or the body's layout fail, with 2 where the
-    // report's type is unknown.
+    // Decodes one whole frame held in `bytes`. Refuses with 1 where F1 to F4 or the body's layout fail, with 2 where
+    // the report's type is unknown.
     pub fn parse(bytes: &[u8]) -> FrameResult
         ensures parsed { λ r. ⌜ r ≡ parsedFrame (now (bytes .entry)) ⌝ }
         ensures causes { λ r. ⌜ Causes (checksFor (now (bytes .entry))) (now (bytes .entry)) (r .outcome) ⌝ }

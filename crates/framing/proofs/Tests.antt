@@ -1,11 +1,8 @@
 -- Decisions as tests, and every framing as one that is given by tests: the same strings, and so the same divisions.
 -- The last law is about every framing, and so stands in no contract: it says why the claims about tests are enough.
-use mathlib.Core.Path.{_≡_}
 use mathlib.Core.Logic.{_↔_}
 use mathlib.Core.List.{List, [], _∷_, _++_}
-use mathlib.Core.Bool.{true, false}
 use Prim.Native.Nat.{ℕ}
-use native.Mathlib.Omega.{arith}
 use lib.Dec.{T}
 use Rattle.framing.specs.Framing.{Laws, Framing, Piece}
 use Rattle.framing.specs.Division.{Division, is-empty, is-stray, is-broken, is-whole, is-unfinished}
@@ -19,15 +16,6 @@ module _ {P : Type 0} where
   pub decided-complete : (d : Dec P) → P → T (decided d)
   decided-complete (yes p) q = tt
   decided-complete (no n) q = absurd (n q)
-
-  -- The same as equations, which a decoding asks for.
-  pub decided-true : (d : Dec P) → decided d ≡ true → P
-  decided-true (yes p) e = p
-  decided-true (no n) e = let z : _≡_ {A = ℕ} 0 1 = cc in absurd (omega arith)
-
-  pub decided-false : (d : Dec P) → decided d ≡ false → ¬ P
-  decided-false (yes p) e = let z : _≡_ {A = ℕ} 0 1 = cc in absurd (omega arith)
-  decided-false (no n) e = n
 
 module _ (F : Framing) where
   tests-laws : Laws (λ s. T (decided (F .open? s))) (λ s. T (decided (F .whole? s)))

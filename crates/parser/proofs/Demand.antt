@@ -1,9 +1,8 @@
 -- Demand 3, from a parser in which nothing is pending: the theory of the stream, for this engine.
 use mathlib.Core.Path.{_≡_, refl, sym, ap, _∙_}
 use mathlib.Core.List.{List, []}
-use Prim.Native.Nat.{ℕ, _+_, _<_}
+use Prim.Native.Nat.{_+_, _<_}
 use native.Mathlib.Omega.{arith}
-use lib.ListN.{length}
 use Rattle.framing.specs.Bytes.{Every}
 use Rattle.framing.specs.Tally.{sum, framed}
 use Rattle.framing.specs.Calls.{Call, ByteCall, takenBy}
@@ -12,11 +11,11 @@ use Rattle.framing.proofs.Correct.{correct}
 use Rattle.framing.proofs.Accounts.{accounts}
 use Rattle.framing.proofs.Same.{same}
 use Rattle.stream.specs.Link.{link}
-use Rattle.stream.specs.Deliver.{Counter, frames, resyncs, dropped, malformed}
+use Rattle.stream.specs.Deliver.{frames, resyncs, dropped, malformed}
 use Rattle.stream.specs.Decoding.{decoding, counting}
 use Rattle.parser.specs.Feed.{fresh, resetOf, unfinishedOf}
 use Rattle.parser.specs.Engine.{pendingBy, engine}
-use Rattle.parser.specs.Claims.{did, left, Fulfilled, FromHere, Accounted, Determined}
+use Rattle.parser.specs.Claims.{did, left, FromHere, Accounted, Determined}
 use Rattle.parser.specs.declared.Parser.{Parser}
 use Rattle.parser.proofs.Feeding.{Valid}
 use Rattle.parser.proofs.Engines.{lawful, hunting-pending}
@@ -78,4 +77,6 @@ fresh-claims = (
 )
 
 pub reset-claims : (p : Parser) → Valid 54 p → FromHere (resetOf p) × Determined (resetOf p)
-reset-claims p v = (fulfilled (resetOf p) (reset-valid p v) (nothing-in p), determined (resetOf p) (reset-valid p v) (nothing-in p))
+reset-claims p v =
+    let w = reset-valid p v in
+    (fulfilled (resetOf p) w (nothing-in p), determined (resetOf p) w (nothing-in p))

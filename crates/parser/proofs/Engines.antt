@@ -2,7 +2,6 @@
 use mathlib.Core.Path.{_≡_, refl, sym, ap, subst, _∙_}
 use mathlib.Core.List.{List, [], _∷_}
 use Prim.Native.Nat.{ℕ, _+_, _≤_, _<_, min}
-use lib.ListN.{length}
 use Rattle.wire.specs.Counter.{counterMost}
 use Rattle.framing.specs.Bytes.{Byte, Bytes}
 use Rattle.framing.specs.Engine.{Sliced}
@@ -13,19 +12,17 @@ use Rattle.framing.proofs.Until.{until-invariant}
 use Rattle.stream.specs.Link.{link}
 use Rattle.stream.specs.Deliver.{Answer, Counter, frames, resyncs, dropped, malformed}
 use Rattle.stream.specs.Decoding.{decoding, counting}
-use Rattle.scan.specs.Scan.{hunting, inOrder, settled, pendingOf, unfinishedBy}
-use Rattle.step.specs.Step.{stepOf, stored}
-use Rattle.step.specs.Slice.{runOf}
+use Rattle.scan.specs.Scan.{inOrder, settled, pendingOf, unfinishedBy}
+use Rattle.step.specs.Step.{stepOf}
 use Rattle.parser.specs.Feed.{bufOf, movedOf, put, feedOf, sliceBufOf, sliceMovedOf, feedSliceOf, resetOf}
 use Rattle.parser.specs.Feed.{unfinishedOf}
 use Rattle.parser.specs.Engine.{counterIn, pendingBy, engine}
 use Rattle.scan.specs.declared.Scan.{Scan}
 use Rattle.parser.specs.declared.Parser.{Parser}
-use Rattle.step.proofs.Follow.{Capped}
 use Rattle.step.proofs.Waiting.{waits, pending-length}
 use Rattle.scan.proofs.Orders.{settled-order, settled-same}
 use Rattle.parser.proofs.Feeding.{Valid, one-follows, one-scan, one-answer, one-counter, one-valid}
-use Rattle.parser.proofs.Slicing.{sliceAs, until}
+use Rattle.parser.proofs.Slicing.{until}
 
 module _ (most : ℕ) (small : most < 65536) where
   -- A parser whose scan is settled, and that it does the same.
@@ -52,37 +49,37 @@ module _ (most : ℕ) (small : most < 65536) where
       → engine most .slice p bs ≡ feedUntil (link most) decoding (engine most) (still p) bs
   unfolding feedSliceOf sliceMovedOf sliceBufOf
   slice-until p bs v h =
-      until most small bs h (settled most (p .scan)) (settled-order most (p .scan)) (p .stats) (v .capped) (p .buf) (v .room)
+      until most small bs h (still p) (settled-order most (p .scan)) (still-valid p v)
 
   -- One byte.
   module _ (p : Parser) (b : ℕ) (v : Valid most p) (byte : Byte b) where
-    abbrev c : Scan
-    c = settled most (p .scan)
+    abbrev scanned : Scanner.Step
+    scanned = Scanner.step (link most) (pendingBy most p) b
 
     fed-valid : Valid most (feedOf most p b .parser)
     unfolding feedOf movedOf bufOf
-    fed-valid = one-valid most small c (settled-order most (p .scan)) (p .stats) (v .capped) (p .buf) (v .room) b byte
+    fed-valid = one-valid most small (still p) (settled-order most (p .scan)) (still-valid p v) b byte
 
-    fed-pending : pendingBy most (feedOf most p b .parser) ≡ Scanner.step (link most) (pendingBy most p) b .pending
+    fed-pending : pendingBy most (feedOf most p b .parser) ≡ scanned .pending
     unfolding feedOf movedOf bufOf
     fed-pending =
-        let f = one-follows most small c (settled-order most (p .scan)) (p .stats) (v .capped) (p .buf) (v .room) b byte in
-        let e = one-scan most small c (settled-order most (p .scan)) (p .stats) (v .capped) (p .buf) (v .room) b byte in
-        rw (e, settled-same most (stepOf most c (p .stats) b .scan) (f .order)) (f .pending)
+        let f = one-follows most small (still p) (settled-order most (p .scan)) (still-valid p v) b byte in
+        let e = one-scan most small (still p) (settled-order most (p .scan)) (still-valid p v) b byte in
+        rw (e, settled-same most (stepOf most (still p .scan) (p .stats) b .scan) (f .order)) (f .pending)
 
-    fed-answer : engine most .feed p b .1 ≡ answerAt decoding (Scanner.step (link most) (pendingBy most p) b .ended)
+    fed-answer : engine most .feed p b .1 ≡ answerAt decoding (scanned .ended)
     unfolding feedOf movedOf bufOf
-    fed-answer = one-answer most small c (settled-order most (p .scan)) (p .stats) (v .capped) (p .buf) (v .room) b byte
+    fed-answer = one-answer most small (still p) (settled-order most (p .scan)) (still-valid p v) b byte
 
     fed-counter : (k : Counter) → counterIn k (feedOf most p b .parser .stats)
-        ≡ min (counterIn k (p .stats) + total counting k (Scanner.step (link most) (pendingBy most p) b .closed)) counterMost
+        ≡ min (counterIn k (p .stats) + total counting k (scanned .closed)) counterMost
     unfolding feedOf movedOf bufOf
-    fed-counter k =
-        one-counter most small c (settled-order most (p .scan)) (p .stats) (v .capped) (p .buf) (v .room) b byte k
+    fed-counter k = one-counter most small (still p) (settled-order most (p .scan)) (still-valid p v) b byte k
 
   -- A slice: what is pending, told, answered and counted is what the bytes do from the parser itself.
   module _ (p : Parser) (v : Valid most p) where
-    same-until : {X : Type 0} (get : Sliced Parser Answer → X) → get (feedUntil (link most) decoding (engine most) (still p) [])
+    same-until : {X : Type 0} (get : Sliced Parser Answer → X)
+        → get (feedUntil (link most) decoding (engine most) (still p) [])
         ≡ get (feedUntil (link most) decoding (engine most) p []) → (bs : List ℕ) → Bytes bs
         → get (engine most .slice p bs) ≡ get (feedUntil (link most) decoding (engine most) p bs)
     same-until get e [] h = ap get (slice-until p [] v h) ∙ e
@@ -114,7 +111,7 @@ module _ (most : ℕ) (small : most < 65536) where
     reset-valid = λ p v. record { room = v .room; capped = v .capped };
     reset-pending = λ p v. hunting-pending p;
     reset-counter = λ p v k. refl;
-    pending-waits = λ p v. waits most small (p .buf) (v .room) (settled most (p .scan)) (settled-order most (p .scan));
-    pending-length = λ p v. pending-length most small (p .buf) (v .room) (settled most (p .scan)) (settled-order most (p .scan));
+    pending-waits = λ p v. waits most small (p .buf) (v .room) (still p .scan) (settled-order most (p .scan));
+    pending-length = λ p v. pending-length most small (p .buf) (v .room) (still p .scan) (settled-order most (p .scan));
     capped = λ p v k. capped-at k p v;
   }

@@ -1,133 +1,37 @@
 -- A byte fed does what the scanner's step does: the laws of an engine at one byte.
-use mathlib.Core.Path.{_≡_, refl, sym, ap, _∙_}
-use mathlib.Core.List.{List, [], _∷_, _++_}
-use mathlib.Core.Bool.{Bool, true, false, not}
-use mathlib.Core.Option.{Option, none, some}
+use mathlib.Core.Path.{_≡_, refl, ap, _∙_}
+use mathlib.Core.List.{List}
+use mathlib.Core.Bool.{true, not}
 use Prim.Native.Nat.{ℕ, _+_, _≤_, _<_, min}
 use native.Mathlib.Omega.{arith}
-use lib.ListN.{length, take, drop, set, length-set, take-append-drop}
-use lib.Seq.{length-take-le}
-use Rattle.wire.specs.Number.{leBytes}
+use lib.ListN.{length, length-set}
 use Rattle.wire.specs.Counter.{counterMost, bumped}
-use Rattle.wire.proofs.Counters.{bumped-nil, bumped-most}
-use Rattle.refusal.specs.Check.{firstFailed}
-use Rattle.wire.specs.Family.{header, tail, framed}
-use Rattle.wire.specs.declared.Kind.{Kind}
-use Rattle.frame.specs.Frame.{bodyChecks, decoded}
-use Rattle.framing.specs.Framing.{Framing}
-use Rattle.framing.specs.Tally.{sum, one-if, passed, resynced, lost, total}
+use Rattle.wire.proofs.Counters.{bumped-most}
+use Rattle.framing.specs.Tally.{sum, resynced, lost, total}
 use Rattle.framing.specs.Scanner as Scanner
 use Rattle.framing.specs.Lawful.{answerAt}
-use Rattle.framing.proofs.View.{Does, does-end, does-open, does-stray, does-break, does}
 use Rattle.stream.specs.Link.{link}
-use Rattle.stream.specs.Deliver.{Answer, holds, decodes, delivered, payloadOf, Counter, frames, resyncs, dropped, malformed}
+use Rattle.stream.specs.Deliver.{decodes, Counter, frames, resyncs, dropped, malformed}
 use Rattle.stream.specs.Decoding.{decoding, counting}
-use Rattle.stream.proofs.Delivered.{decodes-framed, delivered-framed, decoded-failed}
-use Rattle.scan.specs.Scan.{hunting, inOrder, orHunting, settled, pendingOf}
+use Rattle.scan.specs.Scan.{inOrder, pendingOf}
 use Rattle.step.specs.Step.{stepOf, storedIn, stored}
-use Rattle.scan.specs.Start.{counted}
-use Rattle.parser.specs.Feed.{emitted, bufOf, movedOf, put, feedOf}
-use Rattle.parser.specs.Engine.{answerOf, counterIn, pendingBy, engine}
+use Rattle.parser.specs.Feed.{emitted, put}
+use Rattle.parser.specs.Engine.{answerOf, counterIn}
 use Rattle.scan.specs.declared.State.{State}
 use Rattle.scan.specs.declared.State.the-variants.{Header, Len, Data, Tail}
 use Rattle.scan.specs.declared.Scan.{Scan}
-use Rattle.scan.specs.declared.Stats.{Stats}
 use Rattle.parser.specs.declared.Parser.{Parser}
 use Rattle.scan.specs.declared.Stepped.{Stepped}
 use Rattle.parser.specs.declared.Moved.{Moved}
-use Rattle.scan.specs.declared.Ended.{Ended}
-use Rattle.scan.specs.declared.Ended.the-variants.{Frame, Nothing}
-use Rattle.step.proofs.Follow.{Capped, endedAs, Fits, Follows}
+use Rattle.step.proofs.Follow.{Capped, Follows}
 use Rattle.step.proofs.Steps.{follows}
+use Rattle.parser.proofs.Emitted.{step-passed, emitted-scan, emitted-answer}
+use Rattle.parser.proofs.Emitted.{emitted-frames, emitted-malformed, emitted-resyncs, emitted-dropped}
 
 -- What a parser's type says of it: the buffer has room for the largest length, and no counter is past its most.
 pub record Valid (most : ℕ) (p : Parser) : Type 0 where
   pub room : most ≤ length (p .buf)
   pub capped : Capped (p .stats)
-
--- Whole frames that pass a test, among the pieces that a byte closed: the one that it ended, if any.
-abbrev pub endedCount : (List ℕ → Bool) → Option (List ℕ) → ℕ
-endedCount test (some f) = one-if (test f)
-endedCount test none = 0
-
-module _ (F : Framing) (test : List ℕ → Bool) where
-  does-passed : {p : List ℕ} {c : ℕ} {r : Scanner.Step} → Does F p c r
-      → sum (passed test) (r .closed) ≡ endedCount test (r .ended)
-  does-passed (does-end {p} {c} w) = omega arith
-  does-passed (does-open w) = refl
-  does-passed (does-stray w) = refl
-  does-passed (does-break w d) = omega (arith, does-passed d)
-
-  pub step-passed : (p : List ℕ) (c : ℕ)
-      → sum (passed test) (Scanner.step F p c .closed) ≡ endedCount test (Scanner.step F p c .ended)
-  step-passed p c = does-passed (does F p c)
-
--- What is emitted where a frame ended, and where none did.
-framed-here : (k : Kind) (n : ℕ) (buf : List ℕ) → n ≤ length buf
-    → header k ++ (leBytes 2 n ++ (take n buf ++ tail k)) ≡ framed k (take n buf)
-unfolding framed
-framed-here k n buf l = rw (length-take-le n buf l)
-
-emitted-scan : (e : Ended) (c : Scan) (st : Stats) (buf : List ℕ) → emitted e c st buf .scan ≡ c
-emitted-scan (Frame k n) c st buf = refl
-emitted-scan Nothing c st buf = refl
-
-counted-resyncs : (x : Bool) (st : Stats) → counted x st .resyncs ≡ st .resyncs
-counted-resyncs true st = refl
-counted-resyncs false st = refl
-
-counted-dropped : (x : Bool) (st : Stats) → counted x st .dropped ≡ st .dropped
-counted-dropped true st = refl
-counted-dropped false st = refl
-
-counted-frames : (x : Bool) (st : Stats) → Capped st → counted x st .frames ≡ bumped (st .frames) (one-if x)
-counted-frames true st cap = refl
-counted-frames false st cap = sym (bumped-nil (st .frames) (cap .frames))
-
-counted-malformed : (x : Bool) (st : Stats) → Capped st
-    → counted x st .malformed ≡ bumped (st .malformed) (one-if (not x))
-counted-malformed true st cap = sym (bumped-nil (st .malformed) (cap .malformed))
-counted-malformed false st cap = refl
-
-module _ (most : ℕ) (small : most < 65536) (buf : List ℕ) (room : most ≤ length buf) (c : Scan) (st : Stats) (cap : Capped st) where
-  -- The data of a whole frame, at the front of the buffer.
-  module _ (k : Kind) (n : ℕ) (fits : n ≤ most) where
-    data-small : length (take n buf) < 65536
-    data-small = omega (arith, length-take-le n buf (omega arith))
-
-    decodes-here : decodes (header k ++ (leBytes 2 n ++ (take n buf ++ tail k))) ≡ holds (decoded 4 k (take n buf) .failed)
-    decodes-here = rw (framed-here k n buf (omega arith), decoded-failed 4 k (take n buf))
-        (decodes-framed k (take n buf) data-small)
-
-    delivered-here : answerOf (decoded 4 k (take n buf) .frame) (put buf c st)
-        ≡ delivered (header k ++ (leBytes 2 n ++ (take n buf ++ tail k)))
-    delivered-here = rw (framed-here k n buf (omega arith)) (sym (delivered-framed (take n buf) (drop n buf) k data-small
-        ∙ ap (λ s. answerOf (decoded 4 k (take n buf) .frame) (put s c st)) (take-append-drop n buf)))
-
-  emitted-answer : (e : Ended) → Fits most e
-      → answerOf (emitted e c st buf .answer) (put buf c st) ≡ answerAt decoding (endedAs e buf)
-  emitted-answer (Frame k n) fits = delivered-here k n fits
-  emitted-answer Nothing fits = refl
-
-  emitted-frames : (e : Ended) → Fits most e
-      → emitted e c st buf .stats .frames ≡ bumped (st .frames) (endedCount decodes (endedAs e buf))
-  emitted-frames (Frame k n) fits =
-      rw (decodes-here k n fits) (counted-frames (holds (decoded 4 k (take n buf) .failed)) st cap)
-  emitted-frames Nothing fits = sym (bumped-nil (st .frames) (cap .frames))
-
-  emitted-malformed : (e : Ended) → Fits most e
-      → emitted e c st buf .stats .malformed ≡ bumped (st .malformed) (endedCount (λ f. not (decodes f)) (endedAs e buf))
-  emitted-malformed (Frame k n) fits =
-      rw (decodes-here k n fits) (counted-malformed (holds (decoded 4 k (take n buf) .failed)) st cap)
-  emitted-malformed Nothing fits = sym (bumped-nil (st .malformed) (cap .malformed))
-
-  emitted-resyncs : (e : Ended) → emitted e c st buf .stats .resyncs ≡ st .resyncs
-  emitted-resyncs (Frame k n) = counted-resyncs (holds (decoded 4 k (take n buf) .failed)) st
-  emitted-resyncs Nothing = refl
-
-  emitted-dropped : (e : Ended) → emitted e c st buf .stats .dropped ≡ st .dropped
-  emitted-dropped (Frame k n) = counted-dropped (holds (decoded 4 k (take n buf) .failed)) st
-  emitted-dropped Nothing = refl
 
 -- A byte that is stored leaves the buffer as long as it was.
 stored-length : (c : Scan) (buf : List ℕ) (b : ℕ) → length (stored c buf b) ≡ length buf
@@ -140,70 +44,77 @@ stored-length c buf b = go (c .state)
     go Data = length-set buf (c .pos) b
     go Tail = refl
 
+-- What a byte does to a parser: its step, the buffer that it leaves, the scanner's step, and all that the feed gives.
+abbrev stepped : ℕ → Parser → ℕ → Stepped
+stepped most p b = stepOf most (p .scan) (p .stats) b
+
+abbrev left : Parser → ℕ → List ℕ
+left p b = stored (p .scan) (p .buf) b
+
+abbrev scanned : ℕ → Parser → ℕ → Scanner.Step
+scanned most p b = Scanner.step (link most) (pendingOf (p .scan) (p .buf)) b
+
+abbrev one : ℕ → Parser → ℕ → Moved
+one most p b = emitted (stepped most p b .ended) (stepped most p b .scan) (stepped most p b .stats) (left p b)
+
+abbrev oneLeft : ℕ → Parser → ℕ → Parser
+oneLeft most p b = put (left p b) (one most p b .scan) (one most p b .stats)
+
 -- One byte, from a scan in order.
-module _ (most : ℕ) (small : most < 65536) (c : Scan) (o : inOrder most c ≡ true) (st : Stats) (cap : Capped st) (buf : List ℕ)
-    (room : most ≤ length buf) (b : ℕ) (byte : b < 256) where
-  abbrev left : List ℕ
-  left = stored c buf b
+module _ (most : ℕ) (small : most < 65536) (p : Parser) (o : inOrder most (p .scan) ≡ true) (v : Valid most p)
+    (b : ℕ) (byte : b < 256) where
+  pub one-follows : Follows most (stepped most p b) (p .stats) (left p b) (scanned most p b)
+  one-follows = follows most small (p .stats) (v .capped) (p .buf) (v .room) b byte (p .scan) o
 
-  abbrev stepped : Stepped
-  stepped = stepOf most c st b
-
-  abbrev scanned : Scanner.Step
-  scanned = Scanner.step (link most) (pendingOf c buf) b
-
-  pub one-follows : Follows most (stepOf most c st b) st (stored c buf b) (Scanner.step (link most) (pendingOf c buf) b)
-  one-follows = follows most small st cap buf room b byte c o
-
-  pub one-room : most ≤ length (stored c buf b)
-  one-room = rw (stored-length c buf b) room
-
-  pub one-capped : Capped (stepOf most c st b .stats)
-  one-capped = record {
-    frames = rw (one-follows .frames) (cap .frames);
-    resyncs = rw (one-follows .resyncs) (bumped-most (st .resyncs) (sum resynced (scanned .closed)));
-    dropped = rw (one-follows .dropped) (bumped-most (st .dropped) (sum lost (scanned .closed)));
-    malformed = rw (one-follows .malformed) (cap .malformed);
+  -- The parser that the step leaves, before the frame that it ended is counted.
+  pub one-stepped : Valid most (put (left p b) (stepped most p b .scan) (stepped most p b .stats))
+  one-stepped = record {
+    room = rw (stored-length (p .scan) (p .buf) b) (v .room);
+    capped = record {
+      frames = rw (one-follows .frames) (v .capped .frames);
+      resyncs = rw (one-follows .resyncs) (bumped-most (p .stats .resyncs) (sum resynced (scanned most p b .closed)));
+      dropped = rw (one-follows .dropped) (bumped-most (p .stats .dropped) (sum lost (scanned most p b .closed)));
+      malformed = rw (one-follows .malformed) (v .capped .malformed);
+    };
   }
 
-  abbrev pub one : Moved
-  one = emitted (stepOf most c st b .ended) (stepOf most c st b .scan) (stepOf most c st b .stats) (stored c buf b)
+  pub one-scan : one most p b .scan ≡ stepped most p b .scan
+  one-scan = emitted-scan (stepped most p b .ended) (stepped most p b .scan) (stepped most p b .stats) (left p b)
 
-  pub one-scan : one .scan ≡ stepOf most c st b .scan
-  one-scan = emitted-scan (stepped .ended) (stepped .scan) (stepped .stats) left
+  pub one-answer : answerOf (one most p b .answer) (oneLeft most p b)
+      ≡ answerAt decoding (scanned most p b .ended)
+  one-answer =
+      emitted-answer most small (left p b) (one-stepped .room) (stepped most p b .scan) (stepped most p b .stats)
+      (one-stepped .capped) (stepped most p b .ended) (one-follows .fits) ∙ ap (answerAt decoding) (one-follows .ended)
 
-  pub one-answer : answerOf (one .answer) (put (stored c buf b) (one .scan) (one .stats))
-      ≡ answerAt decoding (Scanner.step (link most) (pendingOf c buf) b .ended)
-  one-answer = emitted-answer most small left one-room (stepped .scan) (stepped .stats) one-capped (stepped .ended)
-      (one-follows .fits) ∙ ap (answerAt decoding) (one-follows .ended)
-
-  pub one-counter : (k : Counter) → counterIn k (one .stats)
-      ≡ min (counterIn k st + total counting k (Scanner.step (link most) (pendingOf c buf) b .closed)) counterMost
+  pub one-counter : (k : Counter) → counterIn k (one most p b .stats)
+      ≡ min (counterIn k (p .stats) + total counting k (scanned most p b .closed)) counterMost
   unfolding bumped
   one-counter frames =
-      emitted-frames most small left one-room (stepped .scan) (stepped .stats) one-capped (stepped .ended) (one-follows .fits)
-      ∙ rw (one-follows .frames, one-follows .ended, step-passed (link most) decodes (pendingOf c buf) b)
+      emitted-frames most small (left p b) (one-stepped .room) (stepped most p b .scan) (stepped most p b .stats)
+      (one-stepped .capped) (stepped most p b .ended) (one-follows .fits)
+      ∙ rw (one-follows .frames, one-follows .ended, step-passed (link most) decodes (pendingOf (p .scan) (p .buf)) b)
   one-counter resyncs =
-      emitted-resyncs most small left one-room (stepped .scan) (stepped .stats) one-capped (stepped .ended)
+      emitted-resyncs (stepped most p b .scan) (stepped most p b .stats) (left p b) (stepped most p b .ended)
       ∙ one-follows .resyncs
   one-counter dropped =
-      emitted-dropped most small left one-room (stepped .scan) (stepped .stats) one-capped (stepped .ended)
+      emitted-dropped (stepped most p b .scan) (stepped most p b .stats) (left p b) (stepped most p b .ended)
       ∙ one-follows .dropped
   one-counter malformed =
-      emitted-malformed most small left one-room (stepped .scan) (stepped .stats) one-capped (stepped .ended)
-      (one-follows .fits)
+      emitted-malformed most small (left p b) (one-stepped .room) (stepped most p b .scan) (stepped most p b .stats)
+      (one-stepped .capped) (stepped most p b .ended) (one-follows .fits)
       ∙ rw (
         one-follows .malformed,
         one-follows .ended,
-        step-passed (link most) (λ f. not (decodes f)) (pendingOf c buf) b,
+        step-passed (link most) (λ f. not (decodes f)) (pendingOf (p .scan) (p .buf)) b,
       )
 
-  capped-by : (k : Counter) → counterIn k (one .stats) ≤ counterMost
+  capped-by : (k : Counter) → counterIn k (one most p b .stats) ≤ counterMost
   capped-by k = omega (arith, one-counter k)
 
-  pub one-valid : Valid most (put (stored c buf b) (one .scan) (one .stats))
+  pub one-valid : Valid most (oneLeft most p b)
   one-valid = record {
-    room = one-room;
+    room = one-stepped .room;
     capped = record {
       frames = capped-by frames;
       resyncs = capped-by resyncs;

@@ -24,13 +24,10 @@ use mir.Syntax.{place, field, copy, rvOpd, addrOf, seq, assign, call, return}
 use mir.Val.{Val, vptr}
 use base.Logic.{SProp, ent, exE, id⊢}
 use base.Fml.{GName, Lft, Share, ftrue, flft, fobs, fbor, fres, fat}
-use prog.Model.{Model}
-use prog.Routine.{Routine, Env}
-use prog.Wp.{Heap, Calls, Loops, WpFn, Tables, Closed}
+use prog.Wp.{Heap, Calls, Loops, WpFn, Tables}
 use ghost.Atoms.{Atoms}
 use contract.Lifetimes.{Lfts, Shares, toks}
 use contract.Monad.{fact}
-use contract.Running.{Running, GhostRules, givenOf, tables, tablesOf}
 use types.Kit.{Item, Given, mean, ‵, raw, _⊛_, ⋆, some, later, _$_, _∵_, !, qed, by, move, keep, drop, use1, use2, use3}
 use types.Kit.{split, join, pick, rewrite, fsplit, fsplit3, fjoin, fjoin3, feqI, suffices, await, show, done}
 use types.Run.{look, init, forget, stop, hop, fld, from, load, addr, and-then, no-more, of-opd, assigns, land, returns}
@@ -46,11 +43,10 @@ use denote.Ref.{RefT, MutRef, ptr-vals, mut-tells}
 use denote.Signature.{plain}
 use denote.Steps.{only, closes, peeks, heard, owned, nothing}
 use denote.Struct.Laws as LL
-use denote.Triple.Spec.{Meets, tripleOf}
+use denote.Triple.Spec.{Meets}
 use denote.Triple.Statement.{Contract, Triple}
 use denote.Triple.Call.{calls-at}
 use denote.Triple.Clauses.{Ended, Clauses, ensured, closing, lasts}
-use denote.Triple.Table.{entered, cited}
 use denote.Triple.Walked.{says, Stays, stay-ref, stay-dropped, walkOf, goes-ref, goes-dropped, ends-at, walked}
 use denote.Triple.Walked.{walk-meets}
 use denote.Exit.{yes}
@@ -70,6 +66,7 @@ use Rattle.parser.proofs.Field.{with-buf, ref, Borrow, Lent, Whole, len
 use Rattle.parser.proofs.Extra.{Extra}
 use Rattle.parser.proofs.Answers.{Answer, Moves}
 use Rattle.parser.proofs.Contracts.{step-ended, lent-ended, step-clauses, lent-clauses}
+use Rattle.parser.proofs.Carried.{contractOf, Carries, carried}
 
 module _ {m : ℕ} {Z : Type 0} (X : Extra m Z) (B : Answer) (O : Moves B) where
   abbrev moved-mir : Ty
@@ -128,7 +125,7 @@ module _ {m : ℕ} {Z : Type 0} (X : Extra m Z) (B : Answer) (O : Moves B) where
 
     module _ {M : Type 1} (𝓤 : URA M) (H : Heap 𝓤) (A : Atoms 𝓤) (W : Given 𝓤 H A) where
       abbrev Callee : Contract 𝓤
-      Callee = tripleOf 𝓤 H A (g-ended .signature) (closing 𝓤 H A g-ended (g-clauses 𝓤))
+      Callee = contractOf 𝓤 g-ended (g-clauses 𝓤) H A
 
       module _ (κ : Lft) (κs : Lfts m) (q : Share) (qs : Shares m) (b o : ℕ) (γ : GName) (h : Parser)
           (e : X .beside .slot .row (κ, κs) .Denot) where
@@ -304,15 +301,5 @@ module _ {m : ℕ} {Z : Type 0} (X : Extra m Z) (B : Answer) (O : Moves B) where
           (λ κs qs bounds a _ are. walk (κs .0) (κs .1) (qs .0) (qs .1) (a .0 .ptr .0) (a .0 .ptr .1) (a .0 .name)
           (a .0 .now) (a .1 .0) k (𝓣 .C) (𝓣 .Λ) (fmOf 𝓤 H (W .laws) 𝓣) known (are .1 .0)))
 
-    -- of the functions' routines: ε is f's environment, kf and kg the keys of f and of g, rg the routine of g
-    pub lent-feed : {M : Type 1} (𝓤 : URA M) (H : Heap 𝓤) (𝓜 : Model 𝓤 H) (𝓖 : GhostRules 𝓤 H) (𝓡 : Running 𝓤 H 𝓜)
-        (ε : Env) (kf kg : Name) → Closed 𝓤 H (tables 𝓤 H 𝓜 𝓡 ε .C) (tables 𝓤 H 𝓜 𝓡 ε .Λ) kf (lent-code kg)
-        → (rg : Routine) → ε kg ≡ rg
-        → Meets 𝓤 H (𝓖 .A) (g-ended .signature) (𝓡 .run rg) (closing 𝓤 H (𝓖 .A) g-ended (g-clauses 𝓤))
-        → Meets 𝓤 H (𝓖 .A) (f-ended .signature) (𝓡 .run (ε kf)) (closing 𝓤 H (𝓖 .A) f-ended (f-clauses 𝓤))
-    unfolding tablesOf
-    lent-feed 𝓤 H 𝓜 𝓖 𝓡 ε kf kg closed rg calls met =
-        entered 𝓤 H (tripleOf 𝓤 H (𝓖 .A) (f-ended .signature) (closing 𝓤 H (𝓖 .A) f-ended (f-clauses 𝓤)))
-        (tables 𝓤 H 𝓜 𝓡 ε .C) (tables 𝓤 H 𝓜 𝓡 ε .Λ) kf (lent-code kg) closed
-        (meets 𝓤 H (𝓖 .A) (givenOf 𝓤 H 𝓜 𝓖) kg (tablesOf 𝓤 H 𝓜 (tables 𝓤 H 𝓜 𝓡 ε))
-        (cited 𝓤 H (Callee 𝓤 H (𝓖 .A) (givenOf 𝓤 H 𝓜 𝓖)) 𝓜 𝓡 ε kg rg calls met))
+    pub lent-feed : {M : Type 1} (𝓤 : URA M) → Carries 𝓤 g-ended f-ended (g-clauses 𝓤) (f-clauses 𝓤) lent-code
+    lent-feed 𝓤 = carried 𝓤 g-ended f-ended (g-clauses 𝓤) (f-clauses 𝓤) lent-code (meets 𝓤)

@@ -18,12 +18,9 @@ use mir.Syntax.{seq, assign, call, return}
 use mir.Val.{Val, vunit, vptr}
 use base.Logic.{SProp, ent, sep, emp, via, comm∗, mono∗, monoL, emp∗, exE, snd∗, id⊢}
 use base.Fml.{GName, Lft, Share, ftrue, flft, fobs, fbor, fat}
-use prog.Model.{Model}
-use prog.Routine.{Routine, Env}
-use prog.Wp.{Heap, Calls, Loops, WpFn, Tables, Closed}
+use prog.Wp.{Heap, Calls, Loops, WpFn, Tables}
 use ghost.Atoms.{Atoms, sem}
 use contract.Monad.{fact, factI}
-use contract.Running.{Running, GhostRules, givenOf, tables, tablesOf}
 use types.Kit.{Item, Given, prop, Step, step, ‵, raw, _⊛_, ⋆, some, later, _$_, _∵_, !, qed, by, move, keep, drop}
 use types.Kit.{use0, use1, split, join, pick, rewrite, fsplit, fsplit3, fjoin, fjoin3, feqI, suffices, frame, await}
 use types.Kit.{done}
@@ -39,13 +36,11 @@ use denote.Ref.{RefT, MutRef, ptr-vals, mut-tells}
 use denote.Signature.{plain}
 use denote.Steps.{only, closes, peeks, heard, owned, nothing}
 use denote.Struct.Laws as LL
-use denote.Triple.Spec.{Meets, tripleOf}
+use denote.Triple.Spec.{Meets}
 use denote.Triple.Statement.{Contract, Triple}
 use denote.Triple.Call.{calls-at}
 use denote.Triple.Clauses.{Clauses, ensured, closing, lasts}
-use denote.Triple.Table.{entered, cited}
 use denote.Triple.Walked.{Stays, stay-ref, walkOf, goes-ref, ends-at, walked, walk-meets}
-use denote.Exit.{yes}
 use Rattle.parser.specs.Feed.{put}
 use Rattle.parser.specs.declared.Parser.{Parser}
 use Rattle.scan.specs.declared.Scan.{Scan}
@@ -55,6 +50,7 @@ use Rattle.scan.proofs.Scan as C
 use Rattle.scan.proofs.Scan.Laws as C′
 use Rattle.parser.proofs.Memory.{P, val, vals, scan-val, scan-fits, is-buf, is-stats, is-put, self, opened}
 use Rattle.parser.proofs.Contracts.{scan-ended, reset-ended, scan-clauses, reset-clauses}
+use Rattle.parser.proofs.Carried.{contractOf, Carries, carried}
 
 abbrev reset-code : Name → Fn
 reset-code k = record {
@@ -101,7 +97,7 @@ module _ {M : Type 1} (𝓤 : URA M) (s : Scan) (Says : Parser → Parser → SP
 
   module _ (H : Heap 𝓤) (A : Atoms 𝓤) (W : Given 𝓤 H A) where
     abbrev Callee : Contract 𝓤
-    Callee = tripleOf 𝓤 H A (scan-ended .signature) (closing 𝓤 H A scan-ended g-clauses)
+    Callee = contractOf 𝓤 scan-ended g-clauses H A
 
     abbrev to-g : Callee .Ghost
     to-g = ((tt, tt, tt, tt, tt), tt)
@@ -195,15 +191,5 @@ module _ {M : Type 1} (𝓤 : URA M) (s : Scan) (Says : Parser → Parser → SP
         (λ κs qs bounds a _ are. walk (κs .0) (qs .0) (a .0 .ptr .0) (a .0 .ptr .1) (a .0 .name) (a .0 .now)
         k (𝓣 .C) (𝓣 .Λ) (fmOf 𝓤 H (W .laws) 𝓣) known))
 
-  -- of the functions' routines: ε is f's environment, kf and kg the keys of f and of g, rg the routine of g
-  pub lent-reset : (H : Heap 𝓤) (𝓜 : Model 𝓤 H) (𝓖 : GhostRules 𝓤 H) (𝓡 : Running 𝓤 H 𝓜)
-      (ε : Env) (kf kg : Name) → Closed 𝓤 H (tables 𝓤 H 𝓜 𝓡 ε .C) (tables 𝓤 H 𝓜 𝓡 ε .Λ) kf (reset-code kg)
-      → (rg : Routine) → ε kg ≡ rg
-      → Meets 𝓤 H (𝓖 .A) (scan-ended .signature) (𝓡 .run rg) (closing 𝓤 H (𝓖 .A) scan-ended g-clauses)
-      → Meets 𝓤 H (𝓖 .A) (reset-ended .signature) (𝓡 .run (ε kf)) (closing 𝓤 H (𝓖 .A) reset-ended f-clauses)
-  unfolding tablesOf
-  lent-reset H 𝓜 𝓖 𝓡 ε kf kg closed rg calls met =
-      entered 𝓤 H (tripleOf 𝓤 H (𝓖 .A) (reset-ended .signature) (closing 𝓤 H (𝓖 .A) reset-ended f-clauses))
-      (tables 𝓤 H 𝓜 𝓡 ε .C) (tables 𝓤 H 𝓜 𝓡 ε .Λ) kf (reset-code kg) closed
-      (meets H (𝓖 .A) (givenOf 𝓤 H 𝓜 𝓖) kg (tablesOf 𝓤 H 𝓜 (tables 𝓤 H 𝓜 𝓡 ε))
-      (cited 𝓤 H (Callee H (𝓖 .A) (givenOf 𝓤 H 𝓜 𝓖)) 𝓜 𝓡 ε kg rg calls met))
+  pub lent-reset : Carries 𝓤 scan-ended reset-ended g-clauses f-clauses reset-code
+  lent-reset = carried 𝓤 scan-ended reset-ended g-clauses f-clauses reset-code meets

@@ -1,7 +1,9 @@
+-- What is emitted where a frame ended, and where none did.
+pub mod Emitted
+-- A frame that ended, decoded and counted, is what is emitted.
+pub mod Endings
 -- A byte fed does what the scanner's step does.
 pub mod Feeding
--- What is emitted where a frame ended, and where none did.
-pub mod Emits
 -- A slice fed does what its bytes do, fed one by one.
 pub mod Slicing
 -- The parser is a lawful engine of the link's framing.
@@ -18,6 +20,8 @@ pub mod Extra
 pub mod Answers
 -- The contracts of feeds and of resets.
 pub mod Contracts
+-- From a function's code to its routine.
+pub mod Carried
 -- A feed of a parser that is lent.
 pub mod LentFeed
 -- A reset of a parser that is lent.

@@ -18,13 +18,10 @@ use mir.Syntax.{copy, rvOpd, addrOf, aggregate, seq, assign, call, return}
 use mir.Val.{Val, vptr, vstruct, vcons, vnil}
 use base.Logic.{SProp, ent, exE, id⊢}
 use base.Fml.{GName, ftrue, flft, fres, fat}
-use prog.Model.{Model}
-use prog.Routine.{Routine, Env}
-use prog.Wp.{Heap, Calls, Loops, WpFn, Tables, Closed}
+use prog.Wp.{Heap, Calls, Loops, WpFn, Tables}
 use ghost.Atoms.{Atoms}
 use contract.Lifetimes.{Lfts, Shares, toks}
 use contract.Monad.{fact}
-use contract.Running.{Running, GhostRules, givenOf, tables, tablesOf}
 use types.Kit.{Item, Given, mean, ‵, raw, _⊛_, ⋆, some, later, _$_, _∵_, !, qed, by, move, keep, drop, use1, use2, use3}
 use types.Kit.{split, join, pick, rewrite, fsplit, fjoin, suffices, await, show, done}
 use types.Run.{look, init, forget, stop, from, load, addr, and-then, no-more, of-opd, assigns, land, returns}
@@ -39,21 +36,21 @@ use denote.Ref.{RefT}
 use denote.Signature.{plain}
 use denote.Steps.{only, peeks, heard, owned, nothing}
 use denote.Struct.Laws as LL
-use denote.Triple.Spec.{Meets, tripleOf}
+use denote.Triple.Spec.{Meets}
 use denote.Triple.Statement.{Contract, Triple}
 use denote.Triple.Call.{calls-at}
 use denote.Triple.Clauses.{Ended, Clauses, ensured, closing, lasts}
-use denote.Triple.Table.{entered, cited}
 use denote.Triple.Walked.{says, Stays, stay-dropped, walkOf, goes-dropped, ends-at, walked, walk-meets}
 use denote.Exit.{yes}
 use Rattle.parser.specs.declared.Parser.{Parser}
 use Rattle.parser.proofs.Parser as T
 use Rattle.parser.proofs.Parser.Laws as T′
 use Rattle.parser.proofs.Memory.{P, Cell, val, vals, fits}
-use Rattle.parser.proofs.Local.{ref, Borrow, Kept, Lent, lend, back}
+use Rattle.parser.proofs.Local.{ref, Borrow, Lent, lend, back}
 use Rattle.parser.proofs.Extra.{Extra}
 use Rattle.parser.proofs.Answers.{Answer, Hands}
 use Rattle.parser.proofs.Contracts.{lent-ended, value-ended, lent-clauses, value-clauses}
+use Rattle.parser.proofs.Carried.{contractOf, Carries, carried}
 
 module _ {m : ℕ} {Z : Type 0} (X : Extra m Z) (B : Answer) (R : Hands B) where
   abbrev handed-mir : Ty
@@ -102,7 +99,7 @@ module _ {m : ℕ} {Z : Type 0} (X : Extra m Z) (B : Answer) (R : Hands B) where
 
     module _ (H : Heap 𝓤) (A : Atoms 𝓤) (W : Given 𝓤 H A) where
       abbrev Callee : Contract 𝓤
-      Callee = tripleOf 𝓤 H A (g-ended .signature) (closing 𝓤 H A g-ended g-clauses)
+      Callee = contractOf 𝓤 g-ended g-clauses H A
 
       module _ (κs : Lfts m) (qs : Shares m) (h : Parser) (e : X .alone .slot .row κs .Denot) where
         abbrev given : Parser × (X .alone .slot .row κs .Denot × Unit {0})
@@ -249,15 +246,5 @@ module _ {m : ℕ} {Z : Type 0} (X : Extra m Z) (B : Answer) (R : Hands B) where
           (λ κs qs bounds a _ are. walk κs qs (a .0) (a .1 .0) k (𝓣 .C) (𝓣 .Λ) (fmOf 𝓤 H (W .laws) 𝓣) known (are .0)
           (are .1 .0)))
 
-    -- of the functions' routines: ε is f's environment, kf and kg the keys of f and of g, rg the routine of g
-    pub local-feed : (H : Heap 𝓤) (𝓜 : Model 𝓤 H) (𝓖 : GhostRules 𝓤 H) (𝓡 : Running 𝓤 H 𝓜)
-        (ε : Env) (kf kg : Name) → Closed 𝓤 H (tables 𝓤 H 𝓜 𝓡 ε .C) (tables 𝓤 H 𝓜 𝓡 ε .Λ) kf (local-code kg)
-        → (rg : Routine) → ε kg ≡ rg
-        → Meets 𝓤 H (𝓖 .A) (g-ended .signature) (𝓡 .run rg) (closing 𝓤 H (𝓖 .A) g-ended g-clauses)
-        → Meets 𝓤 H (𝓖 .A) (f-ended .signature) (𝓡 .run (ε kf)) (closing 𝓤 H (𝓖 .A) f-ended f-clauses)
-    unfolding tablesOf
-    local-feed H 𝓜 𝓖 𝓡 ε kf kg closed rg calls met =
-        entered 𝓤 H (tripleOf 𝓤 H (𝓖 .A) (f-ended .signature) (closing 𝓤 H (𝓖 .A) f-ended f-clauses))
-        (tables 𝓤 H 𝓜 𝓡 ε .C) (tables 𝓤 H 𝓜 𝓡 ε .Λ) kf (local-code kg) closed
-        (meets H (𝓖 .A) (givenOf 𝓤 H 𝓜 𝓖) kg (tablesOf 𝓤 H 𝓜 (tables 𝓤 H 𝓜 𝓡 ε))
-        (cited 𝓤 H (Callee H (𝓖 .A) (givenOf 𝓤 H 𝓜 𝓖)) 𝓜 𝓡 ε kg rg calls met))
+    pub local-feed : Carries 𝓤 g-ended f-ended g-clauses f-clauses local-code
+    local-feed = carried 𝓤 g-ended f-ended g-clauses f-clauses local-code meets

@@ -1,14 +1,14 @@
 -- Demand 3 of document 01's customer, for the parser of this crate.
---   Fulfilled p calls   the claim, for any list of calls that feed a byte, feed a slice or reset, the first on the parser p,
---                       each other on the parser that the one before left
+--   Fulfilled p calls   the claim, for any list of calls that feed a byte, feed a slice or reset, the first on the
+--                       parser p, each other on the parser that the one before left
 --   FromHere p          it holds of every list of calls that pass bytes
 --   Accounted p         from p, without a reset and while `dropped` is not full, no byte is unaccounted for
 --   Determined p        the claim leaves no choice: whatever satisfies it answers, tells and counts as this parser does
--- A division and its pieces, calls, histories and stretches are those of the crate `framing`; what is open, what is a whole
--- frame, what decodes and what is delivered those of the crate `stream`. 54 is the largest length, 4,294,967,295 the most
--- that a counter holds.
+-- A division and its pieces, calls, histories and stretches are those of the crate `framing`; what is open, what is a
+-- whole frame, what decodes and what is delivered those of the crate `stream`. 54 is the largest length, 4,294,967,295
+-- the most that a counter holds.
 use mathlib.Core.Path.{_≡_}
-use mathlib.Core.List.{List, [], _∷_, _++_, List·Memᴰ}
+use mathlib.Core.List.{List, _∷_, _++_, List·Memᴰ}
 use mathlib.Core.Bool.{not}
 use Prim.Native.Nat.{ℕ, _+_, _<_, min}
 use lib.ListN.{length}
@@ -43,8 +43,8 @@ pub record Fulfilled (p : Parser) (calls : List Call) : Type 0 where
   -- the stretches, with the resets between them, are all the calls, and no reset is within one
   pub glued : glue (stretches (did p calls)) ≡ did p calls
   pub apart : Every (λ g. Every Took g) (stretches (did p calls))
-  -- a call delivered a frame exactly when the last byte it took ends a whole frame that decodes, and it delivered that one;
-  -- a slice feed told exactly how many bytes it took
+  -- a call delivered a frame exactly when the last byte it took ends a whole frame that decodes, and it delivered that
+  -- one; a slice feed told exactly how many bytes it took
   pub right : (g : List (Did Answer)) → List·Memᴰ g (stretches (did p calls))
       → (before : List (Did Answer)) (d : Did Answer) (behind : List (Did Answer)) → g ≡ before ++ (d ∷ behind)
       → CallRight (link 54) decoding divide (takenBy before) (takenBy g) d
@@ -67,8 +67,8 @@ pub record Fulfilled (p : Parser) (calls : List Call) : Type 0 where
 abbrev pub FromHere : Parser → Type 0
 FromHere p = (calls : List Call) → Every ByteCall calls → Fulfilled p calls
 
--- "from fresh, without a reset and with no counter full, bytes taken equal dropped plus unfinished plus the lengths of whole
--- frames"
+-- "from fresh, without a reset and with no counter full, bytes taken equal dropped plus unfinished plus the lengths of
+-- whole frames"
 abbrev pub Accounted : Parser → Type 0
 Accounted p = (calls : List Call) → Every ByteCall calls → Every Goes calls
     → left p calls .stats .dropped < 4294967295

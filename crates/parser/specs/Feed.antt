@@ -5,8 +5,8 @@
 --   sliceMovedOf, sliceBufOf   the same of a slice
 --   feedOf, feedSliceOf, resetOf   the same of a whole parser
 --   unfinishedOf       the length of the frame in progress
--- A scan out of range is handled "as if reset came first". What document 01 leaves free: fields without use in a state are
--- 0, and buffer bytes that belong to no frame stay as they were.
+-- A scan out of range is handled "as if reset came first". What document 01 leaves free: fields without use in a state
+-- are 0, and buffer bytes that belong to no frame stay as they were.
 use mathlib.Core.List.{List}
 use Prim.Native.Nat.{ℕ}
 use lib.ListN.{take, replicate}
@@ -23,7 +23,6 @@ use Rattle.parser.specs.declared.Parser.{Parser}
 use Rattle.scan.specs.declared.Ended.{Ended}
 use Rattle.scan.specs.declared.Ended.the-variants as Is
 use Rattle.parser.specs.declared.Moved.{Moved}
-use Rattle.parser.specs.declared.Taken.{Taken}
 use Rattle.parser.specs.declared.MovedSlice.{MovedSlice}
 use Rattle.parser.specs.declared.Fed.{Fed}
 use Rattle.parser.specs.declared.FedSlice.{FedSlice}

@@ -12,14 +12,20 @@ use step::step_at;
 use wire::Kind;
 use wire::MAX_FRAME;
 use wire::least;
+
+mod lent;
+mod value;
+
+pub use lent::feed_lent;
+pub use lent::feed_slice_lent;
+pub use lent::reset_lent;
 ghost use mathlib.Core.Path.{_≡_};
 ghost use lib.ListN.{take};
 ghost use Rattle.frame.specs.Frame.{decoded};
 ghost use Rattle.stream.specs.Link.{linkMost};
 ghost use Rattle.stream.specs.Deliver.{isFrame};
 ghost use Rattle.scan.specs.Start.{counted};
-ghost use Rattle.parser.specs.Feed.{fresh, bufOf, movedOf, sliceBufOf, sliceMovedOf};
-ghost use Rattle.parser.specs.Feed.{feedOf, feedSliceOf, resetOf, unfinishedOf};
+ghost use Rattle.parser.specs.Feed.{fresh, bufOf, movedOf, sliceBufOf, sliceMovedOf, unfinishedOf};
 ghost use Rattle.parser.specs.Claims.{FromHere, Accounted, Determined};
 
 // A streaming parser. The buffer holds the data bytes of the frame in progress, or of the last whole frame.
@@ -175,167 +181,4 @@ impl Parser {
         let scan = self.scan;
         scan.unfinished()
     }
-
-    // Feeds one received byte; the answer is the frame that this byte completed, or no frame. A parser with a field out of
-    // range is handled as if reset came first.
-    pub fn fed(self, byte: u8) -> Fed
-        ensures fed { λ r. ⌜ r ≡ feedOf linkMost self byte ⌝ }
-    {
-        let mut buf = self.buf;
-        let scan = self.scan;
-        let stats = self.stats;
-        let stepped = step_at(&mut buf, scan, stats, byte);
-        let ended = stepped.ended;
-        let next = stepped.scan;
-        let counted = stepped.stats;
-        match ended {
-            Ended::Frame(kind, len) => {
-                let answer = emit(&buf, kind, len);
-                Fed {
-                    parser: Parser {
-                        buf,
-                        scan: next,
-                        stats: tally(counted, answer),
-                    },
-                    answer,
-                }
-            }
-            Ended::Nothing => Fed {
-                parser: Parser {
-                    buf,
-                    scan: next,
-                    stats: counted,
-                },
-                answer: Frame::none(),
-            },
-        }
-    }
-
-    // Feeds bytes up to and including the end of the first whole frame, decoded or not, else all of them; the answer tells
-    // how many, and the frame. Call again with the rest.
-    pub fn fed_slice(self, bytes: &[u8]) -> FedSlice
-        ensures fed { λ r. ⌜ r ≡ feedSliceOf linkMost self (now (bytes .entry)) ⌝ }
-    {
-        let mut buf = self.buf;
-        let scan = self.scan;
-        let stats = self.stats;
-        let run = run_at(&mut buf, scan, stats, bytes);
-        let ended = run.ended;
-        let next = run.scan;
-        let counted = run.stats;
-        match ended {
-            Ended::Frame(kind, len) => {
-                let frame = emit(&buf, kind, len);
-                FedSlice {
-                    parser: Parser {
-                        buf,
-                        scan: next,
-                        stats: tally(counted, frame),
-                    },
-                    answer: Taken {
-                        count: run.taken,
-                        frame,
-                    },
-                }
-            }
-            Ended::Nothing => FedSlice {
-                parser: Parser {
-                    buf,
-                    scan: next,
-                    stats: counted,
-                },
-                answer: Taken {
-                    count: run.taken,
-                    frame: Frame::none(),
-                },
-            },
-        }
-    }
-
-    // Forgets a frame in progress and looks for a header again. The counters are kept. From what it returns, whatever
-    // parser it was given, every list of calls fulfils demand 3.
-    pub fn cleared(self) -> Self
-        ensures reset { λ r. ⌜ r ≡ resetOf self ⌝ }
-        ensures fulfilled { λ r. ⌜ FromHere r ⌝ }
-        ensures determined { λ r. ⌜ Determined r ⌝ }
-    {
-        let buf = self.buf;
-        let stats = self.stats;
-        Parser {
-            buf,
-            scan: Scan::hunting(),
-            stats,
-        }
-    }
-
-    // `fed` on a parser that is lent: it stays where it is, and nothing of its buffer is copied.
-    pub fn feed(&mut self, byte: u8) -> Frame
-        ensures fed { λ r. ⌜ (r ≡ feedOf linkMost (now (self .entry)) byte .answer)
-            × (now (self .exit) ≡ feedOf linkMost (now (self .entry)) byte .parser) ⌝ }
-    {
-        let scan = self.scan;
-        let stats = self.stats;
-        let moved = feed_at(&mut self.buf, scan, stats, byte);
-        self.scan = moved.scan;
-        self.stats = moved.stats;
-        moved.answer
-    }
-
-    // `fed_slice` on a parser that is lent.
-    pub fn feed_slice(&mut self, bytes: &[u8]) -> Taken
-        ensures fed { λ r. ⌜ (r ≡ feedSliceOf linkMost (now (self .entry)) (now (bytes .entry)) .answer)
-            × (now (self .exit) ≡ feedSliceOf linkMost (now (self .entry)) (now (bytes .entry)) .parser) ⌝ }
-    {
-        let scan = self.scan;
-        let stats = self.stats;
-        let run = feed_slice_at(&mut self.buf, scan, stats, bytes);
-        self.scan = run.scan;
-        self.stats = run.stats;
-        run.answer
-    }
-
-    // `cleared` on a parser that is lent.
-    pub fn reset(&mut self)
-        ensures reset { λ _. ⌜ now (self .exit) ≡ resetOf (now (self .entry)) ⌝ }
-        ensures fulfilled { λ _. ⌜ FromHere (now (self .exit)) ⌝ }
-        ensures determined { λ _. ⌜ Determined (now (self .exit)) ⌝ }
-    {
-        self.scan = Scan::hunting();
-    }
-}
-
-// `Parser::fed`, by a local that is lent to `Parser::feed`. Who calls this, or one of the two below, lends nothing, and
-// needs no proof about memory.
-pub fn feed_lent(parser: Parser, byte: u8) -> Fed
-    ensures fed { λ r. ⌜ r ≡ feedOf linkMost parser byte ⌝ }
-{
-    let mut lent = parser;
-    let answer = lent.feed(byte);
-    Fed {
-        parser: lent,
-        answer,
-    }
-}
-
-// `Parser::fed_slice`, by a local that is lent to `Parser::feed_slice`.
-pub fn feed_slice_lent(parser: Parser, bytes: &[u8]) -> FedSlice
-    ensures fed { λ r. ⌜ r ≡ feedSliceOf linkMost parser (now (bytes .entry)) ⌝ }
-{
-    let mut lent = parser;
-    let answer = lent.feed_slice(bytes);
-    FedSlice {
-        parser: lent,
-        answer,
-    }
-}
-
-// `Parser::cleared`, by a local that is lent to `Parser::reset`.
-pub fn reset_lent(parser: Parser) -> Parser
-    ensures reset { λ r. ⌜ r ≡ resetOf parser ⌝ }
-    ensures fulfilled { λ r. ⌜ FromHere r ⌝ }
-    ensures determined { λ r. ⌜ Determined r ⌝ }
-{
-    let mut lent = parser;
-    lent.reset();
-    lent
 }

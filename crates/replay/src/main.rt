@@ -3,6 +3,7 @@
 mod argument;
 mod cases;
 mod commands;
+mod fields;
 mod input;
 mod line;
 mod ops;

@@ -1,5 +1,6 @@
 // The table of the ops.
 use crate::commands;
+use crate::fields;
 use crate::line;
 use crate::line::Text;
 use crate::readers;
@@ -12,7 +13,7 @@ pub fn answer(out: &mut Text, taken: usize, op: u8, argument: &[u8]) -> usize {
     match op {
         10 => scripts::run(out, taken, 10, false, Parser::new(), argument),
         11 => scripts::run(out, taken, 11, true, Parser::new(), argument),
-        13 => scripts::built(out, taken, argument),
+        13 => fields::built(out, taken, argument),
         _ => one_line(out, taken, op, argument),
     }
 }

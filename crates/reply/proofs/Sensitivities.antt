@@ -13,8 +13,8 @@ use Rattle.refusal.specs.declared.Error.the-variants.{InvalidFormat}
 use Rattle.refusal.specs.declared.Outcome.the-variants.{Ok, Err}
 use Rattle.wire.proofs.Numbers.{There}
 use Rattle.reply.specs.Reply.{readAs}
-use Rattle.reply.specs.Replies.{secondsAt, fixedOf, fixedIf, fixedIn, parametersFits, parametersReply, parametersAs}
-use Rattle.reply.specs.Replies.{noParameters}
+use Rattle.reply.specs.Replies.{secondsAt, fixedOf, fixedIf, fixedIn}
+use Rattle.reply.specs.Replies.{parametersFits, parametersReply, parametersAs, noParameters}
 use Rattle.reply.specs.declared.Fixed.{Fixed}
 use Rattle.reply.specs.declared.MaybeFixed.the-variants.{Some, None}
 use Rattle.reply.proofs.Payloads.{read-fits, read-refused}

@@ -6,9 +6,8 @@ use Prim.Native.Nat.{ℕ, _-_, _≤_, _<_}
 use native.Mathlib.Omega.{arith}
 use lib.ListN.{length, getD, take, drop}
 use borrow.Author.Tests.{le-leb, lt-leb, eq-eqb, ne-eqb}
-use Rattle.refusal.specs.Check.{Passes, FailsFirst, firstFailed, Causes}
-use Rattle.refusal.proofs.Checks.{passes-complete, fails-complete, causes}
-use Rattle.refusal.specs.declared.Check.{Check}
+use Rattle.refusal.specs.Check.{firstFailed, Causes}
+use Rattle.refusal.proofs.Checks.{causes}
 use Rattle.refusal.specs.declared.Check.the-variants.{R1, R2, R3, R4, R5, R6, R7, R8}
 use Rattle.refusal.specs.declared.MaybeCheck.{MaybeCheck}
 use Rattle.refusal.specs.declared.MaybeCheck.the-variants.{Some, None}
@@ -18,16 +17,6 @@ use Rattle.report.specs.Check.{r4, reportChecks, passing, failing}
 use Rattle.report.specs.Check.{checkedAs, checkedReport, completedReport, parsedReport}
 use Rattle.report.specs.declared.Basic.{Basic}
 use Rattle.report.specs.declared.Report.{Report}
-
--- The answer where every check holds, and where one fails first.
-module _ (s : List ℕ) where
-  pub checked-passes : Passes reportChecks s → checkedReport s ≡ passing (reportOf s)
-  unfolding checkedReport
-  checked-passes h = rw (passes-complete s reportChecks h)
-
-  pub checked-fails : (c : Check) → FailsFirst reportChecks c s → checkedReport s ≡ failing c
-  unfolding checkedReport
-  checked-fails c h = rw (fails-complete s reportChecks c h)
 
 -- The check that an answer names.
 as-failed : (o : MaybeCheck) (r : Report) → checkedAs o r .failed ≡ o

@@ -3,5 +3,3 @@
 pub mod Basics
 -- The reader's answer by the checks, one after another.
 pub mod Answers
--- The fields that are read from bytes fit their types.
-pub mod Bounds

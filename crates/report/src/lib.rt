@@ -8,28 +8,22 @@ use refusal::MaybeCheck;
 use refusal::Outcome;
 use target_state::TargetState;
 use wire::MaybeU8;
-use wire::MaybeU16;
 use wire::byte_at;
-use wire::le16;
 use wire::same;
+
+mod basic_bytes;
+mod targets;
+
 ghost use mathlib.Core.Path.{_≡_};
 ghost use Rattle.refusal.specs.Check.{Causes};
-ghost use Rattle.target_state.specs.State.{presentOf};
-ghost use Rattle.report.specs.Report.{basicAt, reportWith, noReport, movingTarget, stationaryTarget};
-ghost use Rattle.report.specs.Check.{reportChecks, passing, failing, completedReport, checkedReport};
-ghost use Rattle.report.specs.Check.{parsedReport};
+ghost use Rattle.report.specs.Report.{noReport};
+ghost use Rattle.report.specs.Check.{reportChecks, passing, failing, checkedReport, parsedReport};
 
 // Report data: the fixed head byte after the data type.
 pub const REPORT_HEAD: u8 = 0xAA;
 
 // Report data: the two bytes at the end.
 pub const REPORT_TRAILER: [u8; 2] = [0x55, 0x00];
-
-// The data type of an engineering report.
-const DATA_TYPE_ENGINEERING: u8 = 0x01;
-
-// The data type of a basic report.
-const DATA_TYPE_BASIC: u8 = 0x02;
 
 // Bytes of the basic part: state; moving distance and energy; stationary distance and energy; detection distance.
 const BASIC_LEN: usize = 9;
@@ -84,81 +78,6 @@ struct Basic {
 enum MaybeBasic {
     Some(Basic),
     None,
-}
-
-impl Basic {
-    // Reads the nine basic bytes at the front of `body`.
-    fn read(body: &[u8]) -> MaybeBasic
-        ensures read { λ r. ⌜ r ≡ basicAt (now (body .entry)) ⌝ }
-    {
-        let MaybeU8::Some(state) = byte_at(body, 0) else {
-            return MaybeBasic::None;
-        };
-        let MaybeU16::Some(moving_distance_cm) = le16(body, 1) else {
-            return MaybeBasic::None;
-        };
-        let MaybeU8::Some(moving_energy) = byte_at(body, 3) else {
-            return MaybeBasic::None;
-        };
-        let MaybeU16::Some(stationary_distance_cm) = le16(body, 4) else {
-            return MaybeBasic::None;
-        };
-        let MaybeU8::Some(stationary_energy) = byte_at(body, 6) else {
-            return MaybeBasic::None;
-        };
-        let MaybeU16::Some(detection_distance_cm) = le16(body, 7) else {
-            return MaybeBasic::None;
-        };
-        MaybeBasic::Some(Basic {
-            state,
-            moving_distance_cm,
-            moving_energy,
-            stationary_distance_cm,
-            stationary_energy,
-            detection_distance_cm,
-        })
-    }
-
-    // The report of these fields, with an engineering part or with one that is all 0.
-    fn report(self, has_engineering: bool, engineering: Engineering) -> Report
-        ensures made { λ r. ⌜ r ≡ reportWith self «has_engineering» engineering ⌝ }
-    {
-        Report {
-            state: TargetState::from_byte(self.state),
-            moving_distance_cm: self.moving_distance_cm,
-            moving_energy: self.moving_energy,
-            stationary_distance_cm: self.stationary_distance_cm,
-            stationary_energy: self.stationary_energy,
-            detection_distance_cm: self.detection_distance_cm,
-            has_engineering,
-            engineering,
-        }
-    }
-
-    // Completes the report by its type and the bytes behind the basic ones: checks R6 to R8.
-    fn completed(self, data_type: u8, block: &[u8]) -> CheckedReport
-        ensures checked { λ r. ⌜ r ≡ completedReport self data_type (now (block .entry)) ⌝ }
-    {
-        match data_type {
-            DATA_TYPE_ENGINEERING => {
-                let read = Engineering::parse(block);
-                if read.fits {
-                    let engineering = read.engineering;
-                    CheckedReport::passing(self.report(true, engineering))
-                } else {
-                    CheckedReport::failing(Check::R8)
-                }
-            }
-            DATA_TYPE_BASIC => {
-                if block.len() == 0 {
-                    CheckedReport::passing(self.report(false, no_engineering()))
-                } else {
-                    CheckedReport::failing(Check::R7)
-                }
-            }
-            _ => CheckedReport::failing(Check::R6),
-        }
-    }
 }
 
 impl CheckedReport {
@@ -224,51 +143,6 @@ impl Report {
             outcome: failed.outcome(),
             report,
         }
-    }
-
-    // The moving target, where the state says that there is one.
-    pub fn moving(self) -> MaybeTarget
-        ensures given { λ r. ⌜ r ≡ movingTarget self ⌝ }
-    {
-        let state = self.state;
-        if state.moving() {
-            MaybeTarget::Some(Target {
-                distance_cm: self.moving_distance_cm,
-                energy: self.moving_energy,
-            })
-        } else {
-            MaybeTarget::None
-        }
-    }
-
-    // The stationary target, where the state says that there is one.
-    pub fn stationary(self) -> MaybeTarget
-        ensures given { λ r. ⌜ r ≡ stationaryTarget self ⌝ }
-    {
-        let state = self.state;
-        if state.stationary() {
-            MaybeTarget::Some(Target {
-                distance_cm: self.stationary_distance_cm,
-                energy: self.stationary_energy,
-            })
-        } else {
-            MaybeTarget::None
-        }
-    }
-
-    // Whether any target is present.
-    pub fn present(self) -> bool
-        ensures told { λ r. ⌜ r ≡ presentOf (self .state) ⌝ }
-    {
-        let state = self.state;
-        state.present()
-    }
-
-    // Whether the report came from engineering mode.
-    pub fn is_engineering(self) -> bool
-        ensures told { λ r. ⌜ r ≡ self .«has_engineering» ⌝ }
-    {
-        self.has_engineering
     }
 }
 

@@ -2,7 +2,6 @@
 use mathlib.Core.Path.{_≡_, refl, sym}
 use mathlib.Core.List.{[], _++_}
 use mathlib.Core.Bool.{Bool, true, false}
-use Prim.Native.Nat.{_+_}
 use native.Mathlib.Omega.{arith}
 use Rattle.refusal.specs.Check.{Passes}
 use Rattle.report.specs.Report.{basicOf, reportBy, reportOf}

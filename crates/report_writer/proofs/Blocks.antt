@@ -7,7 +7,8 @@ use native.Mathlib.Omega.{arith}
 use lib.ListN.{length, getD, take, drop, length-append, length-drop, take-append-drop}
 use lib.Seq.{take-at, drop-at, drop-drop, length-take-le}
 use Rattle.wire.specs.Prefix.{padded}
-use Rattle.engineering.specs.Block.{movingGates, stationaryGates, reserved, fits, extraCount, engineeringOf, noEngineering}
+use Rattle.engineering.specs.Block.{movingGates, stationaryGates, reserved, fits, extraCount}
+use Rattle.engineering.specs.Block.{engineeringOf, noEngineering}
 use Rattle.engineering.specs.declared.Engineering.{Engineering}
 use Rattle.engineering.proofs.Blocks.{Fits, fits-complete}
 use Rattle.report_writer.specs.Data.{movingEnergies, stationaryEnergies, reservedBytes, blockOf}

@@ -10,7 +10,7 @@ use Rattle.scan.specs.Scan.{at, inOrder, orHunting, settled}
 use Rattle.scan.specs.Scan.{pick, dataAt}
 use Rattle.scan.specs.declared.State.the-variants.{Header, Len, Data, Tail}
 use Rattle.scan.specs.declared.Scan.{Scan}
-use Rattle.scan.proofs.Ranges.{and-intro, and-left, and-right, range-high}
+use Rattle.scan.proofs.Ranges.{and-intro, and-left, and-right, and-middle, range-high}
 
 -- What the order says, state by state.
 module _ (most : ℕ) (c : Scan) (o : inOrder most c ≡ true) where
@@ -24,7 +24,7 @@ module _ (most : ℕ) (c : Scan) (o : inOrder most c ≡ true) where
 
   pub length-small : c .state ≡ Len → c .len ≤ 255
   unfolding inOrder
-  length-small e = leb-true (c .len) 255 (and-left (leb (c .len) 255) _ (and-right (leb (c .matched) 1) _ (rw e at o)))
+  length-small e = leb-true (c .len) 255 (and-middle (leb (c .matched) 1) (leb (c .len) 255) _ (rw e at o))
 
   pub data-range : c .state ≡ Data → inRange most (c .len) ≡ true
   unfolding inOrder
@@ -43,7 +43,7 @@ module _ (most : ℕ) (c : Scan) (o : inOrder most c ≡ true) where
 
   pub tail-range : c .state ≡ Tail → inRange most (c .len) ≡ true
   unfolding inOrder
-  tail-range e = and-left (inRange most (c .len)) _ (and-right (leb (c .matched) 3) _ (rw e at o))
+  tail-range e = and-middle (leb (c .matched) 3) (inRange most (c .len)) _ (rw e at o)
 
   pub tail-most : c .state ≡ Tail → c .len ≤ most
   tail-most e = range-high most (c .len) (tail-range e)

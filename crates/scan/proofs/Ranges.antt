@@ -17,6 +17,9 @@ pub and-right : (x y : Bool) → x && y ≡ true → y ≡ true
 and-right true y e = e
 and-right false y e = let z : false ≡ true = e in cc
 
+pub and-middle : (x y z : Bool) → x && (y && z) ≡ true → y ≡ true
+and-middle x y z e = and-left y z (and-right x (y && z) e)
+
 pub range-low : (most n : ℕ) → inRange most n ≡ true → 2 ≤ n
 range-low most n e = leb-true 2 n (and-left (leb 2 n) (leb n most) e)
 

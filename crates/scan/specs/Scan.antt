@@ -13,7 +13,7 @@ use lib.ListN.{take}
 use Rattle.wire.specs.Number.{leBytes}
 use Rattle.wire.specs.Family.{header, tail}
 use Rattle.wire.specs.declared.Kind.{Kind}
-use Rattle.wire.specs.declared.Kind.the-variants.{Report, Command}
+use Rattle.wire.specs.declared.Kind.the-variants.{Report}
 use Rattle.stream.specs.Scan.{inRange}
 use Rattle.scan.specs.declared.State.{State}
 use Rattle.scan.specs.declared.State.the-variants.{Header, Len, Data, Tail}
@@ -32,8 +32,8 @@ pick false c other = other
 abbrev pub dataAt : Kind → ℕ → ℕ → Scan
 dataAt k n p = pick (ltb p n) (at Data k 0 n p) (at Tail k 0 n n)
 
--- "matched above 3 in a header or tail; in the length, matched above 1, length above 255, or length not 0 with matched 0;
--- in data or tail, length outside 2 to 54; position not below it in data, not equal to it in the tail"
+-- "matched above 3 in a header or tail; in the length, matched above 1, length above 255, or length not 0 with matched
+-- 0; in data or tail, length outside 2 to 54; position not below it in data, not equal to it in the tail"
 abbrev pub orderIn : ℕ → State → ℕ → ℕ → ℕ → Bool
 orderIn most Header m n p = leb m 3
 orderIn most Len m n p = leb m 1 && (leb n 255 && (eqb m 1 || eqb n 0))

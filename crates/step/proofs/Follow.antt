@@ -1,10 +1,10 @@
--- A parser's step follows the scanner's: it stands for the same pending string, ended the same frame and counted the same
--- pieces. One lemma for each thing that a byte can do.
+-- A parser's step follows the scanner's: it stands for the same pending string, ended the same frame and counted the
+-- same pieces. One lemma for each thing that a byte can do.
 use mathlib.Core.Path.{_≡_, refl, sym, ap, _∙_}
 use mathlib.Core.List.{List, [], _∷_, _++_}
 use mathlib.Core.Bool.{Bool, true, false}
 use mathlib.Core.Option.{Option, none, some}
-use Prim.Native.Nat.{ℕ, _+_, _≤_, _<_}
+use Prim.Native.Nat.{ℕ, _≤_, _<_}
 use native.Mathlib.Omega.{arith}
 use lib.Dec.{T}
 use lib.ListN.{length, take, getD}
@@ -16,16 +16,15 @@ use Rattle.wire.specs.declared.Kind.{Kind}
 use Rattle.wire.specs.declared.Kind.the-variants.{Report, Command}
 use Rattle.wire.specs.declared.MaybeKind.{MaybeKind}
 use Rattle.wire.specs.declared.MaybeKind.the-variants.{Some, None}
-use Rattle.framing.specs.Framing.{Framing, Waits}
 use Rattle.framing.specs.Tally.{sum, resynced, lost}
 use Rattle.framing.specs.Scanner as Scanner
 use Rattle.framing.proofs.View.{step-whole, step-on, step-over}
 use Rattle.stream.specs.Scan.{opens, wholes}
 use Rattle.stream.specs.Link.{link}
 use Rattle.stream.proofs.Steps.{starting-sound, start-opens, start-strays, start-not-whole}
-use Rattle.scan.specs.Scan.{at, hunting, orderIn, inOrder, pendingIn, pendingOf}
-use Rattle.scan.specs.Start.{went, dropping, abandoned, startAs, startOf}
-use Rattle.scan.specs.declared.State.the-variants.{Header, Len, Data, Tail}
+use Rattle.scan.specs.Scan.{at, hunting, inOrder, pendingOf}
+use Rattle.scan.specs.Start.{went, abandoned, startAs, startOf}
+use Rattle.scan.specs.declared.State.the-variants.{Header}
 use Rattle.scan.specs.declared.Scan.{Scan}
 use Rattle.scan.specs.declared.Stats.{Stats}
 use Rattle.scan.specs.declared.Ended.{Ended}
@@ -154,6 +153,7 @@ module _ (most : ℕ) (buf : List ℕ) where
       → Follows most (startOf (abandoned st n) b) st buf (Scanner.step (link most) p b)
   follows-break st [] b n cap l e o = absurd (omega arith)
   follows-break st (x ∷ p) b n cap l e o =
-      rw (step-over (link most) (x ∷ p) b (fails o), ← e) (after-broken st (x ∷ p) (startOf (abandoned st (length (x ∷ p))) b)
-      (Scanner.step (link most) [] b)
-      (follows-start (abandoned st (length (x ∷ p))) b (abandoned-capped st (length (x ∷ p)) cap)))
+      let left = abandoned st (length (x ∷ p)) in
+      rw (step-over (link most) (x ∷ p) b (fails o), ← e)
+      (after-broken st (x ∷ p) (startOf left b) (Scanner.step (link most) [] b)
+      (follows-start left b (abandoned-capped st (length (x ∷ p)) cap)))

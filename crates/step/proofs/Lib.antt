@@ -15,7 +15,9 @@ pub mod Phases
 pub mod Copies
 -- What it is for a step to follow the scanner's, and the ways in which it can.
 pub mod Follow
--- Every step does.
+-- The steps in a header and in the length do; those among the data bytes and in a tail; so every step.
+pub mod HeadSteps
+pub mod BodySteps
 pub mod Steps
 -- What a scan in order stands for waits for more.
 pub mod Waiting

@@ -1,7 +1,7 @@
 -- What a scan in order stands for is open and not whole, and is as long as the parser says.
 use mathlib.Core.Path.{_≡_, refl, sym, ap, _∙_}
 use mathlib.Core.List.{List, [], _∷_, _++_, append-nil}
-use mathlib.Core.Bool.{Bool, true, false, _&&_, _||_}
+use mathlib.Core.Bool.{true}
 use Prim.Native.Nat.{ℕ, zero, suc, _+_, _/_, _%_, _≤_, _<_}
 use native.Mathlib.Omega.{arith}
 use lib.Dec.{T, eqb, leb, ltb}
@@ -12,14 +12,15 @@ use Rattle.wire.specs.Number.{little, leBytes}
 use Rattle.wire.specs.Family.{header, tail}
 use Rattle.wire.proofs.Families.{header-length, tail-length}
 use Rattle.wire.specs.declared.Kind.{Kind}
-use Rattle.stream.specs.Open.{InRange, Open, in-header, in-length, in-data, in-tail, Whole}
+use Rattle.stream.specs.Open.{InRange, in-header, in-length, in-data, in-tail, Whole}
 use Rattle.stream.specs.Scan.{inRange, opens, wholes}
-use Rattle.stream.proofs.Tested.{opens-complete, wholes-sound}
+use Rattle.stream.proofs.Opens.{opens-complete}
+use Rattle.stream.proofs.Wholes.{wholes-sound}
 use Rattle.scan.specs.Scan.{orderIn, inOrder, pendingIn, pendingOf, unfinishedIn, unfinishedAt}
 use Rattle.scan.specs.declared.State.{State}
 use Rattle.scan.specs.declared.State.the-variants.{Header, Len, Data, Tail}
 use Rattle.scan.specs.declared.Scan.{Scan}
-use Rattle.scan.proofs.Ranges.{and-left, and-right, range-low, range-high}
+use Rattle.scan.proofs.Ranges.{and-left, and-right, and-middle, range-low, range-high}
 
 -- A whole frame is ten bytes longer than the length that it holds.
 whole-length : (most : ℕ) (s : List ℕ) → Whole most s → length s ≡ 10 + little (take 2 (drop 4 s))
@@ -42,7 +43,8 @@ module _ (most : ℕ) where
   short s l h = omega (arith, whole-length most s (wholes-sound most s h))
 
   -- A part of the header.
-  header-waits : (k : Kind) (m : ℕ) → m ≤ 3 → T (opens most (take m (header k))) × (T (wholes most (take m (header k))) → ⊥)
+  header-waits : (k : Kind) (m : ℕ) → m ≤ 3
+      → T (opens most (take m (header k))) × (T (wholes most (take m (header k))) → ⊥)
   header-waits k m l = (
     opens-complete most _ (in-header k (drop m (header k), take-append-drop m (header k))),
     short (take m (header k)) (omega (arith, length-take m (header k))),
@@ -62,7 +64,8 @@ module _ (most : ℕ) where
   length-waits k (suc (suc m)) n l = absurd (omega arith)
 
   -- A header, a length in range and data bytes; then a part of the tail.
-  module _ (k : Kind) (n : ℕ) (r : inRange most n ≡ true) (small : most < 65536) (buf : List ℕ) (room : n ≤ length buf) where
+  module _ (k : Kind) (n : ℕ) (r : inRange most n ≡ true) (small : most < 65536)
+      (buf : List ℕ) (room : n ≤ length buf) where
     again : little (leBytes 2 n) ≡ n
     again = omega (arith, range-high most n r)
 
@@ -110,22 +113,21 @@ module _ (most : ℕ) (small : most < 65536) (buf : List ℕ) (room : most ≤ l
   waits-in : (s : State) (k : Kind) (m n p : ℕ) → orderIn most s m n p ≡ true
       → T (opens most (pendingIn s k m n p buf)) × (T (wholes most (pendingIn s k m n p buf)) → ⊥)
   waits-in Header k m n p o = header-waits most k m (leb-true m 3 o)
-  waits-in Len k m n p o =
-      length-waits most k m n (leb-true m 1 (and-left (leb m 1) (leb n 255 && (eqb m 1 || eqb n 0)) o))
+  waits-in Len k m n p o = length-waits most k m n (leb-true m 1 (and-left (leb m 1) _ o))
   waits-in Data k m n p o =
       let r : inRange most n ≡ true = and-left (inRange most n) (ltb p n) o in
       data-waits most k n r small buf (omega (arith, range-high most n r)) p
       (ltb-true p n (and-right (inRange most n) (ltb p n) o))
   waits-in Tail k m n p o =
-      let r : inRange most n ≡ true = and-left (inRange most n) (eqb p n) (and-right (leb m 3) (inRange most n && eqb p n) o) in
+      let r : inRange most n ≡ true = and-middle (leb m 3) (inRange most n) (eqb p n) o in
       tail-waits most k n r small buf (omega (arith, range-high most n r)) m
-      (leb-true m 3 (and-left (leb m 3) (inRange most n && eqb p n) o))
+      (leb-true m 3 (and-left (leb m 3) _ o))
 
   length-in : (s : State) (k : Kind) (m n p : ℕ) → orderIn most s m n p ≡ true
       → unfinishedIn s m n p ≡ length (pendingIn s k m n p buf)
   length-in Header k m n p o = omega (arith, leb-true m 3 o, length-take m (header k), header-length k)
   length-in Len k m n p o =
-      let l : m ≤ 1 = leb-true m 1 (and-left (leb m 1) (leb n 255 && (eqb m 1 || eqb n 0)) o) in
+      let l : m ≤ 1 = leb-true m 1 (and-left (leb m 1) _ o) in
       omega (arith, length-append (header k) (take m (n ∷ [])), length-take m (n ∷ []), header-length k)
   length-in Data k m n p o =
       let r : inRange most n ≡ true = and-left (inRange most n) (ltb p n) o in
@@ -137,12 +139,12 @@ module _ (most : ℕ) (small : most < 65536) (buf : List ℕ) (room : most ≤ l
         ltb-true p n (and-right (inRange most n) (ltb p n) o),
       )
   length-in Tail k m n p o =
-      let r : inRange most n ≡ true = and-left (inRange most n) (eqb p n) (and-right (leb m 3) (inRange most n && eqb p n) o) in
+      let r : inRange most n ≡ true = and-middle (leb m 3) (inRange most n) (eqb p n) o in
       let fits : n ≤ length buf = omega (arith, range-high most n r) in
       omega (
         arith,
         data-size most k n r small buf fits (take n buf ++ take m (tail k)),
-        tail-size most k n r small buf fits m (leb-true m 3 (and-left (leb m 3) (inRange most n && eqb p n) o)),
+        tail-size most k n r small buf fits m (leb-true m 3 (and-left (leb m 3) _ o)),
       )
 
   pub waits : (c : Scan) → inOrder most c ≡ true

@@ -1,19 +1,18 @@
 -- Which bytes begin a frame, and what framing a whole frame's data gives.
-use mathlib.Core.Path.{_≡_, refl, sym, ap, _∙_}
+use mathlib.Core.Path.{_≡_, sym, ap, _∙_}
 use mathlib.Core.Logic.{_≢_, _↔_}
 use mathlib.Core.List.{List, [], _∷_, _++_}
-use mathlib.Core.Bool.{Bool, true, false}
-use Prim.Native.Nat.{ℕ, _+_, _*_, _/_, _%_, _<_}
+use Prim.Native.Nat.{ℕ, _/_, _%_, _<_}
 use native.Mathlib.Omega.{arith}
-use lib.Dec.{T, eqb}
+use lib.Dec.{T}
 use lib.ListN.{length}
-use borrow.Author.Tests.{eq-eqb, ne-eqb}
+use borrow.Author.Tests.{ne-eqb}
 use Rattle.wire.specs.Number.{little, leBytes}
 use Rattle.wire.specs.Family.{header, tail, startingWith, framed}
 use Rattle.wire.specs.declared.Kind.{Kind}
 use Rattle.wire.specs.declared.Kind.the-variants.{Report, Command}
 use Rattle.wire.specs.declared.MaybeKind.the-variants.{Some, None}
-use Rattle.framing.specs.Bytes.{Every, Byte, Bytes}
+use Rattle.framing.specs.Bytes.{Bytes}
 use Rattle.stream.specs.Open.{InRange, Whole}
 use Rattle.stream.specs.Scan.{opens}
 use Rattle.stream.proofs.Steps.{start-opens, start-strays}
@@ -53,7 +52,8 @@ pub whole-framed : (most : ℕ) (s : List ℕ) → Bytes s → Whole most s
     → (k : Kind) × (d : List ℕ) × InRange most (length d) × (s ≡ framed k d)
 unfolding framed
 whole-framed most s bytes w =
-    let behind = every-behind (header (w .kind)) (w .lo ∷ w .hi ∷ (w .held ++ tail (w .kind))) (rw (w .spelled) at bytes) in
+    let rest : List ℕ = w .lo ∷ w .hi ∷ (w .held ++ tail (w .kind)) in
+    let behind = every-behind (header (w .kind)) rest (rw (w .spelled) at bytes) in
     let two = two-again (w .lo) (w .hi) (length (w .held)) (behind .0) (behind .1 .0) (w .all-there) in (
       w .kind,
       w .held,

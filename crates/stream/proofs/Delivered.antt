@@ -1,7 +1,7 @@
--- What a whole frame delivers: what its data are decoded as, with the payload where it stands in a buffer that the data begin.
+-- What a whole frame delivers: what its data are decoded as, with the payload where it stands in a buffer that the data
+-- begin.
 use mathlib.Core.Path.{_≡_, refl, sym, ap, _∙_}
 use mathlib.Core.List.{List, [], _∷_, _++_}
-use mathlib.Core.Bool.{Bool, true, false}
 use Prim.Native.Nat.{ℕ, zero, suc, _-_, _<_}
 use native.Mathlib.Omega.{arith}
 use lib.ListN.{length, take, drop}
@@ -13,7 +13,7 @@ use Rattle.wire.specs.declared.Kind.the-variants.{Report, Command}
 use Rattle.refusal.specs.declared.MaybeCheck.{MaybeCheck}
 use Rattle.refusal.specs.declared.MaybeCheck.the-variants as Maybe
 use Rattle.ack.specs.Ack.{ackOf}
-use Rattle.frame.specs.Frame.{bodyChecks, frameOf, frameIf, decoded, checkedFrame}
+use Rattle.frame.specs.Frame.{bodyChecks, frameOf, frameIf, decoded}
 use Rattle.frame.proofs.Framed.{framed-data, checked-framed}
 use Rattle.frame.specs.declared.Frame.{Frame}
 use Rattle.frame.specs.declared.CheckedFrame.{CheckedFrame}
@@ -37,7 +37,8 @@ decoded-failed i k d = failed-as (firstFailed (bodyChecks k) d) (frameOf i k d)
 module _ (k : Kind) (d : List ℕ) (small : length d < 65536) where
   pub decodes-framed : decodes (framed k d) ≡ holds (firstFailed (bodyChecks k) d)
   unfolding decodes
-  decodes-framed = ap (λ (x : CheckedFrame). holds (x .failed)) (checked-framed k d small) ∙ ap holds (decoded-failed 10 k d)
+  decodes-framed =
+      ap (λ (x : CheckedFrame). holds (x .failed)) (checked-framed k d small) ∙ ap holds (decoded-failed 10 k d)
 
 -- The answer that a decoded frame gives, its payload read in the bytes s.
 abbrev pub answerIn : CheckedFrame → List ℕ → Answer
@@ -49,8 +50,8 @@ module _ (d r : List ℕ) where
   unfolding ackOf
   same-payload Report = refl
   same-payload Command =
-      ap (λ s. take (length d - 4) s) (sym (drop-drop 4 6 (framed Command d)) ∙ ap (λ s. drop 4 s) (framed-data Command d))
-      ∙ left-of 4 d (tail Command) ∙ sym (left-of 4 d r)
+      let body = sym (drop-drop 4 6 (framed Command d)) ∙ ap (λ s. drop 4 s) (framed-data Command d) in
+      ap (λ s. take (length d - 4) s) body ∙ left-of 4 d (tail Command) ∙ sym (left-of 4 d r)
 
   same-frame : (k : Kind) → countedIn (frameOf 10 k d .kind) 4 (frameOf 10 k d) ≡ frameOf 4 k d
   same-frame Report = refl

@@ -1,7 +1,7 @@
 -- What the tests say of a string that begins with a header: it is read on behind it.
 use mathlib.Core.Path.{_≡_, refl}
-use mathlib.Core.List.{List, [], _∷_, _++_}
-use mathlib.Core.Bool.{Bool, true, false}
+use mathlib.Core.List.{List, _++_}
+use mathlib.Core.Bool.{true, false}
 use Prim.Native.Nat.{ℕ}
 use Rattle.wire.specs.Family.{header}
 use Rattle.wire.specs.declared.Kind.{Kind}

@@ -1,7 +1,10 @@
 -- What the tests say of a string behind a header.
 pub mod Headers
--- The tests are document 01's words.
-pub mod Tested
+-- What the tests say of a string that begins with a word.
+pub mod Words
+-- The tests are document 01's words, of open strings and of whole frames.
+pub mod Opens
+pub mod Wholes
 -- What one more byte makes of a string that waits.
 pub mod Steps
 -- What a whole frame delivers.

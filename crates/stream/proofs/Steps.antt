@@ -1,16 +1,16 @@
 -- What one more byte makes of a string that waits: in a header, in a length, among the data bytes, in a tail.
-use mathlib.Core.Path.{_≡_, refl, sym, ap, _∙_}
-use mathlib.Core.List.{List, [], _∷_, _++_, append-assoc}
+use mathlib.Core.Path.{_≡_, refl, ap, _∙_}
+use mathlib.Core.List.{List, [], _∷_, _++_}
 use mathlib.Core.Bool.{Bool, true, false, _&&_}
-use Prim.Native.Nat.{ℕ, zero, suc, _+_, _≤_, _<_}
+use Prim.Native.Nat.{ℕ, zero, suc, _≤_, _<_}
 use native.Mathlib.Omega.{arith}
 use lib.Dec.{eqb}
 use borrow.Author.Tests.{eq-eqb, eqb-true}
 use lib.ListN.{length, getD, take, drop, length-drop, drop-of-length-le}
-use lib.Seq.{drop-at, drop-nil}
+use lib.Seq.{drop-at}
 use Rattle.wire.specs.Number.{little}
 use Rattle.wire.specs.Family.{header, tail, startingWith, orElse}
-use Rattle.wire.proofs.Families.{header-length, tail-length}
+use Rattle.wire.proofs.Families.{tail-length}
 use Rattle.wire.specs.declared.Kind.{Kind}
 use Rattle.wire.specs.declared.Kind.the-variants.{Report, Command}
 use Rattle.wire.specs.declared.MaybeKind.{MaybeKind}

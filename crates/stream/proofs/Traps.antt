@@ -1,9 +1,9 @@
 -- Where a broken start ends, in a bad length and in a broken tail: document 01's traps of the stream.
-use mathlib.Core.Path.{_≡_, refl, sym}
+use mathlib.Core.Path.{_≡_, refl}
 use mathlib.Core.Logic.{_≢_}
 use mathlib.Core.List.{List, [], _∷_, _++_, append-assoc}
 use mathlib.Core.Bool.{Bool, true, false}
-use Prim.Native.Nat.{ℕ, _≤_, _<_}
+use Prim.Native.Nat.{ℕ, _<_}
 use native.Mathlib.Omega.{arith}
 use lib.Dec.{T, eqb, eqb→eq, eqb-refl}
 use lib.ListN.{length, getD, take, length-append}
@@ -14,10 +14,10 @@ use Rattle.wire.specs.declared.Kind.{Kind}
 use Rattle.framing.specs.Framing.{Piece, broken}
 use Rattle.framing.specs.Division.{Division, is-broken}
 use Rattle.stream.specs.Open.{InRange}
-use Rattle.stream.specs.Scan.{inRange, opens, wholes}
+use Rattle.stream.specs.Scan.{opens}
 use Rattle.stream.specs.Link.{link}
 use Rattle.stream.specs.Laws.{wholes-ends, opens-prefix}
-use Rattle.stream.proofs.Tested.{range-sound, range-complete}
+use Rattle.stream.proofs.Words.{range-sound, range-complete}
 use Rattle.stream.proofs.Steps.{length-opens, length-not-whole, data-opens, tail-opens}
 
 holds-true : (a : Bool) → T a → a ≡ true

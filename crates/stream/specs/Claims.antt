@@ -35,16 +35,17 @@ WholeFramed = (most : ℕ) (s : List ℕ) → Bytes s → Whole most s
 unfoldable pub StrayTested : Type 0
 StrayTested = (most b : ℕ) → (T (opens most (b ∷ [])) → ⊥) ↔ (b ≢ 0xF4) × (b ≢ 0xFD)
 
--- Document 01's first trap: "The second byte of a bad length is dropped with the header. It must be tried as a new start."
--- The header and the first length byte are a broken start; the second is the first byte of what is divided next.
+-- Document 01's first trap: "The second byte of a bad length is dropped with the header. It must be tried as a new
+-- start." The header and the first length byte are a broken start; the second is the first byte of what is divided
+-- next.
 unfoldable pub BadLength : Type 0
 BadLength = (most : ℕ) (k : Kind) (lo hi : ℕ) (t : List ℕ) (ps : List Piece)
     → (InRange most (little (lo ∷ hi ∷ [])) → ⊥)
     → Division (link most) (hi ∷ t) ps
     → Division (link most) ((header k ++ (lo ∷ [])) ++ (hi ∷ t)) (broken (header k ++ (lo ∷ [])) ∷ ps)
 
--- Its second: "After a broken tail the whole span is searched again. Only the offending byte is." All that came before the
--- offending byte c is a broken start, whatever the data hold.
+-- Its second: "After a broken tail the whole span is searched again. Only the offending byte is." All that came before
+-- the offending byte c is a broken start, whatever the data hold.
 unfoldable pub BrokenTail : Type 0
 BrokenTail = (most : ℕ) (k : Kind) (lo hi : ℕ) (d : List ℕ) (m c : ℕ) (t : List ℕ) (ps : List Piece)
     → InRange most (little (lo ∷ hi ∷ [])) → length d ≡ little (lo ∷ hi ∷ []) → m < 4 → c ≢ getD (tail k) m 0

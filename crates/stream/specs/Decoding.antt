@@ -1,10 +1,10 @@
--- The decoding and the counting of the link, as the theory of the stream takes them. The laws stand here since the records
--- hold them.
+-- The decoding and the counting of the link, as the theory of the stream takes them. The laws stand here since the
+-- records hold them.
 --   decoding   whole frames, the answer that each gives, and "no frame"
 --   counting   what each piece adds to each counter
-use mathlib.Core.Path.{_≡_, refl, ap, _∙_}
-use mathlib.Core.List.{List, []}
-use mathlib.Core.Bool.{Bool, true, false}
+use mathlib.Core.Path.{_≡_, refl}
+use mathlib.Core.List.{List}
+use mathlib.Core.Bool.{true, false}
 use Prim.Native.Nat.{ℕ}
 use native.Mathlib.Omega.{arith}
 use Rattle.refusal.specs.Check.{firstFailed}
@@ -24,7 +24,7 @@ use Rattle.stream.specs.Deliver.{Counter, frames, resyncs, dropped, malf
 
 -- The answer for a frame that fails a check, and for one that fails none.
 answer-as : (o : MaybeCheck) (x : Frame) (f : List ℕ) → holds (frameIf o x .failed) ≡ false
-    → _≡_ {A = Answer} (countedIn (frameIf o x .frame .kind) 4 (frameIf o x .frame), payloadOf (frameIf o x .frame) f) nothing
+    → let given = frameIf o x .frame in _≡_ {A = Answer} (countedIn (given .kind) 4 given, payloadOf given f) nothing
 answer-as (Maybe.Some c) x f e = refl
 answer-as Maybe.None x f e = let z : _≡_ {A = ℕ} 0 1 = cc in absurd (omega arith)
 

@@ -4,7 +4,6 @@
 --   delivered f    the frame that the whole frame f is read as, its payload counted in the parser's buffer
 --   payloadOf x s  the bytes of s at the place that the frame x gives its payload; none beside a report, or no frame
 --   Counter        the four counters, and what each piece adds to them
-use mathlib.Core.Path.{_≡_, refl}
 use mathlib.Core.List.{List, []}
 use mathlib.Core.Bool.{Bool, true, false, not}
 use Prim.Native.Nat.{ℕ}
@@ -16,7 +15,7 @@ use Rattle.frame.specs.declared.FrameKind.{FrameKind}
 use Rattle.frame.specs.declared.FrameKind.the-variants as Is
 use Rattle.frame.specs.declared.Frame.{Frame}
 use Rattle.framing.specs.Framing.{Piece}
-use Rattle.framing.specs.Tally.{Counting, resynced, lost, passed}
+use Rattle.framing.specs.Tally.{resynced, lost, passed}
 
 abbrev pub Answer : Type 0
 Answer = Frame × List ℕ

@@ -24,8 +24,8 @@ pub data Open (most : ℕ) (s : List ℕ) : Type 0 where
   -- "or a header and any one byte"
   in-length : (k : Kind) (b : ℕ) → s ≡ header k ++ (b ∷ []) → Open most s
   -- "or a header, a length of 2 to 54, at most that many data bytes"
-  in-data : (k : Kind) (lo hi : ℕ) (d : List ℕ) → InRange most (little (lo ∷ hi ∷ [])) → length d ≤ little (lo ∷ hi ∷ [])
-      → s ≡ header k ++ (lo ∷ hi ∷ d) → Open most s
+  in-data : (k : Kind) (lo hi : ℕ) (d : List ℕ) → InRange most (little (lo ∷ hi ∷ []))
+      → length d ≤ little (lo ∷ hi ∷ []) → s ≡ header k ++ (lo ∷ hi ∷ d) → Open most s
   -- "and, once they are all there, a prefix of that family's tail"
   in-tail : (k : Kind) (lo hi : ℕ) (d t : List ℕ) → InRange most (little (lo ∷ hi ∷ []))
       → length d ≡ little (lo ∷ hi ∷ []) → Prefix t (tail k)

@@ -1,6 +1,6 @@
-// The stream of the LD2410's link: which strings are open and which are whole frames, what a whole frame delivers, and what
-// the counters count. It is definitions and laws, and has no code. Each function here is empty: its contract pins claims of
-// specs/Claims.antt.
+// The stream of the LD2410's link: which strings are open and which are whole frames, what a whole frame delivers, and
+// what the counters count. It is definitions and laws, and has no code. Each function here is empty: its contract pins
+// claims of specs/Claims.antt.
 ghost use Rattle.stream.specs.Claims.{OpenTested, WholeTested, WholeFramed, StrayTested};
 ghost use Rattle.stream.specs.Claims.{BadLength, BrokenTail};
 ghost use Rattle.stream.specs.Claims.{DecodesBody, DeliversBody};

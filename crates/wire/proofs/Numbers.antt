@@ -3,20 +3,17 @@ use mathlib.Core.Path.{_≡_, refl, sym, ap, _∙_}
 use mathlib.Core.List.{List, [], _∷_, _++_}
 use mathlib.Core.Bool.{Bool, true, false}
 use mathlib.Core.Option.{Option, none, some}
-use Prim.Native.Nat.{ℕ, zero, suc, _+_, _*_, _^_, _≤_, _<_}
+use Prim.Native.Nat.{ℕ, _+_, _*_, _^_, _≤_, _<_}
 use native.Mathlib.Nat.{pow-suc}
-use native.Mathlib.Numerals.{add-one}
 use native.Mathlib.Omega.{arith}
 use lib.Dec.{leb}
 use lib.ListN.{length, getD, take, drop, length-take, length-drop}
-use lib.Seq.{drop-cons, take-add, drop-drop, length-take-le}
+use lib.Seq.{drop-cons, take-add, drop-drop}
 use borrow.Author.Tests.{le-leb, lt-leb, leb-true, leb-false}
 use Rattle.wire.specs.Number.{little, ifThere, numberAt, answered, byteAt, le16At, le32At}
 use Rattle.wire.specs.declared.MaybeU8.{MaybeU8}
 use Rattle.wire.specs.declared.MaybeU8.the-variants as U8
-use Rattle.wire.specs.declared.MaybeU16.{MaybeU16}
 use Rattle.wire.specs.declared.MaybeU16.the-variants as U16
-use Rattle.wire.specs.declared.MaybeU32.{MaybeU32}
 use Rattle.wire.specs.declared.MaybeU32.the-variants as U32
 
 -- The n bytes of s from place i are all there, and are the number x.

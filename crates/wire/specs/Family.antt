@@ -33,7 +33,8 @@ abbrev pub startingWith : ℕ → MaybeKind
 startingWith b = orElse (eqb b 0xF4) (Some Report) (orElse (eqb b 0xFD) (Some Command) None)
 
 unfoldable pub headerOf : List ℕ → MaybeKind
-headerOf s = orElse (sameBytes s (header Report)) (Some Report) (orElse (sameBytes s (header Command)) (Some Command) None)
+headerOf s =
+    orElse (sameBytes s (header Report)) (Some Report) (orElse (sameBytes s (header Command)) (Some Command) None)
 
 unfoldable pub framed : Kind → List ℕ → List ℕ
 framed k d = header k ++ (leBytes 2 (length d) ++ (d ++ tail k))

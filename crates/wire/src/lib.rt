@@ -1,12 +1,12 @@
-// What both directions of the LD2410's serial link share: the two frame families, the numbers on the wire, the counters,
-// and the copy of a prefix.
+// What both directions of the LD2410's serial link share: the two frame families, the numbers on the wire, the
+// counters, and the copy of a prefix.
 //
 // Every function is total: what may be missing is a variant of its answer.
+mod kinds;
 pub mod word;
 
 ghost use mathlib.Core.Path.{_≡_};
 ghost use Prim.Native.Nat.{min};
-ghost use Rattle.wire.specs.Family.{header, tail, startingWith, headerOf};
 ghost use Rattle.wire.specs.Number.{byteAt, le16At, le32At};
 ghost use Rattle.wire.specs.Counter.{bumped};
 ghost use Rattle.wire.specs.Prefix.{pasted, prefixed, padded, gateSlice};
@@ -76,62 +76,6 @@ impl GateSlice {
             bytes,
             count: least(count, GATES),
         }
-    }
-}
-
-impl Kind {
-    pub const REPORT_HEADER: [u8; 4] = [0xF4, 0xF3, 0xF2, 0xF1];
-
-    pub const REPORT_TAIL: [u8; 4] = [0xF8, 0xF7, 0xF6, 0xF5];
-
-    pub const COMMAND_HEADER: [u8; 4] = [0xFD, 0xFC, 0xFB, 0xFA];
-
-    pub const COMMAND_TAIL: [u8; 4] = [0x04, 0x03, 0x02, 0x01];
-
-    // The four bytes that begin a frame of this family.
-    pub fn header(self) -> [u8; 4]
-        ensures headed { λ r. ⌜ r ≡ header self ⌝ }
-    {
-        match self {
-            Kind::Report => Kind::REPORT_HEADER,
-            Kind::Command => Kind::COMMAND_HEADER,
-        }
-    }
-
-    // The four bytes that end it.
-    pub fn tail(self) -> [u8; 4]
-        ensures tailed { λ r. ⌜ r ≡ tail self ⌝ }
-    {
-        match self {
-            Kind::Report => Kind::REPORT_TAIL,
-            Kind::Command => Kind::COMMAND_TAIL,
-        }
-    }
-
-    // The family whose header starts with `byte`, if any.
-    pub fn starting_with(byte: u8) -> MaybeKind
-        ensures found { λ r. ⌜ r ≡ startingWith byte ⌝ }
-    {
-        match byte {
-            0xF4 => MaybeKind::Some(Kind::Report),
-            0xFD => MaybeKind::Some(Kind::Command),
-            _ => MaybeKind::None,
-        }
-    }
-
-    // The family whose header the four bytes are, if they are one.
-    pub fn of_header(bytes: &[u8]) -> MaybeKind
-        ensures found { λ r. ⌜ r ≡ headerOf (now (bytes .entry)) ⌝ }
-    {
-        let report = Kind::REPORT_HEADER;
-        if same(bytes, &report) {
-            return MaybeKind::Some(Kind::Report);
-        }
-        let command = Kind::COMMAND_HEADER;
-        if same(bytes, &command) {
-            return MaybeKind::Some(Kind::Command);
-        }
-        MaybeKind::None
     }
 }
 

@@ -1,7 +1,7 @@
 -- `parser::feed_slice_at` meets its contract: what the run ended is emitted. Assumes nothing.
 use borrow.Author.Needs.{needs}
 use Rattle.parser.specs.Feed.{sliceMovedOf, sliceBufOf}
-use Rattle.parser.proofs.Emits.{emits-frame, emits-none}
+use Rattle.parser.proofs.Endings.{emits-frame, emits-none}
 use Rattle.parser.proofs.feed_slice_at.Statement.{statement}
 use Rattle.parser.proofs.feed_slice_at.Tie as tie
 

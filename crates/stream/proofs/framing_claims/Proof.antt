@@ -1,6 +1,7 @@
 -- `stream::framing_claims` pins what Tested and Begins prove. Assumes nothing.
 use Rattle.stream.specs.Claims.{OpenTested, WholeTested, WholeFramed, StrayTested}
-use Rattle.stream.proofs.Tested.{opens-sound, opens-complete, wholes-sound, wholes-complete}
+use Rattle.stream.proofs.Opens.{opens-sound, opens-complete}
+use Rattle.stream.proofs.Wholes.{wholes-sound, wholes-complete}
 use Rattle.stream.proofs.Begins.{whole-framed, stray-tested}
 use Rattle.stream.proofs.framing_claims.Statement.{statement}
 use Rattle.stream.proofs.framing_claims.Tie as tie

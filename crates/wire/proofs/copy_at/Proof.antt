@@ -1,7 +1,7 @@
--- `wire::copy_at` meets its contract. The loop's invariant: the first i bytes of `src` stand over those of `dst` from `at` on,
--- and n is as many as fit. The measure is what is left of n. -- Assumes nothing.
+-- `wire::copy_at` meets its contract. The loop's invariant: the first i bytes of `src` stand over those of `dst` from
+-- `at` on, and n is as many as fit. The measure is what is left of n. Assumes nothing.
 use mathlib.Core.Path.{_≡_, refl, _∙_}
-use Prim.Native.Nat.{ℕ, _+_, _-_, _≤_, min}
+use Prim.Native.Nat.{_-_, _≤_, min}
 use native.Mathlib.Omega.{arith}
 use lib.ListN.{length, length-set}
 use borrow.Author.Needs.{needs}

@@ -1,5 +1,5 @@
 -- `wire::copy_prefix` meets its contract. Assumes nothing.
-use mathlib.Core.Path.{sym, _∙_}
+use mathlib.Core.Path.{_∙_}
 use borrow.Author.Needs.{needs}
 use Rattle.wire.proofs.Prefixes.{pasted-front}
 use Rattle.wire.proofs.copy_prefix.Statement.{statement}

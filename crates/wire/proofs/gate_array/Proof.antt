@@ -1,5 +1,5 @@
 -- `wire::gate_array` meets its contract. Assumes nothing.
-use mathlib.Core.Path.{sym, _∙_}
+use mathlib.Core.Path.{_∙_}
 use borrow.Author.Needs.{needs}
 use Rattle.wire.proofs.Prefixes.{prefixed-zeros}
 use Rattle.wire.proofs.gate_array.Statement.{statement}

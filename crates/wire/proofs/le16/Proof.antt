@@ -17,11 +17,14 @@ enum-told : tie.Need-enum-told
 enum-told c = search needs
 
 returns : tie.Need-returns
-returns c = sym (le16-missing _ _ (omega (arith, byte-none _ _ (sym (c .before .before .byte-at .ensures) ∙ c .enum-told .given .1))))
+returns c =
+    let gone = byte-none _ _ (sym (c .before .before .byte-at .ensures) ∙ c .enum-told .given .1) in
+    sym (le16-missing _ _ (omega arith))
 
 add-byte-at : tie.Need-add-byte-at
 add-byte-at c =
-    omega (arith, byte-some _ _ _ (sym (c .before .before .before .byte-at .ensures) ∙ c .before .low .given .1) .inside)
+    let low = byte-some _ _ _ (sym (c .before .before .before .byte-at .ensures) ∙ c .before .low .given .1) in
+    omega arith
 
 byte-at-requires-2 : tie.Need-byte-at-requires-2
 byte-at-requires-2 c κs = search needs
@@ -34,7 +37,8 @@ enum-told-2 c = search needs
 
 returns-2 : tie.Need-returns-2
 returns-2 c =
-    sym (le16-missing _ _ (omega (arith, byte-none _ _ (sym (c .before .before .byte-at2 .ensures) ∙ c .enum-told2 .given .1))))
+    let gone = byte-none _ _ (sym (c .before .before .byte-at2 .ensures) ∙ c .enum-told2 .given .1) in
+    sym (le16-missing _ _ (omega arith))
 
 cast-t8 : tie.Need-cast-t8
 cast-t8 c = search needs

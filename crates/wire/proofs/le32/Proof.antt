@@ -17,11 +17,14 @@ enum-told : tie.Need-enum-told
 enum-told c = search needs
 
 returns : tie.Need-returns
-returns c = sym (le32-missing _ _ (omega (arith, le16-none _ _ (sym (c .before .before .le16 .ensures) ∙ c .enum-told .given .1))))
+returns c =
+    let gone = le16-none _ _ (sym (c .before .before .le16 .ensures) ∙ c .enum-told .given .1) in
+    sym (le32-missing _ _ (omega arith))
 
 add-le16 : tie.Need-add-le16
 add-le16 c =
-    omega (arith, le16-some _ _ _ (sym (c .before .before .before .le16 .ensures) ∙ c .before .low .given .1) .inside)
+    let low = le16-some _ _ _ (sym (c .before .before .before .le16 .ensures) ∙ c .before .low .given .1) in
+    omega arith
 
 le16-requires-2 : tie.Need-le16-requires-2
 le16-requires-2 c κs = search needs
@@ -34,7 +37,8 @@ enum-told-2 c = search needs
 
 returns-2 : tie.Need-returns-2
 returns-2 c =
-    sym (le32-missing _ _ (omega (arith, le16-none _ _ (sym (c .before .before .le162 .ensures) ∙ c .enum-told2 .given .1))))
+    let gone = le16-none _ _ (sym (c .before .before .le162 .ensures) ∙ c .enum-told2 .given .1) in
+    sym (le32-missing _ _ (omega arith))
 
 cast-t8 : tie.Need-cast-t8
 cast-t8 c = search needs

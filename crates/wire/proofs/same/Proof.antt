@@ -1,5 +1,5 @@
--- `wire::same` meets its contract. The loop's invariant: the slices agree up to i. The measure is what is left of the length.
--- Assumes nothing.
+-- `wire::same` meets its contract. The loop's invariant: the slices agree up to i. The measure is what is left of the
+-- length. Assumes nothing.
 use mathlib.Core.Path.{_≡_, refl, sym, ap, _∙_}
 use mathlib.Core.List.{List}
 use Prim.Native.Nat.{ℕ, _+_, _-_, _≤_, _<_}
@@ -7,7 +7,6 @@ use native.Mathlib.Numerals.{add-one}
 use native.Mathlib.Omega.{arith}
 use lib.ListN.{length, take, getD}
 use lib.Seq.{take-suc, take-all}
-use borrow.Author.Needs.{needs}
 use Rattle.wire.proofs.Equality.{same-complete, same-differs}
 use Rattle.wire.proofs.same.Statement.{statement}
 use Rattle.wire.proofs.same.Tie as tie
@@ -40,7 +39,9 @@ shared-slice-read-if2-2 : tie.Need-shared-slice-read-if2-2 Inv-loop μ-loop
 shared-slice-read-if2-2 c = omega arith
 
 returns-2 : tie.Need-returns-2 Inv-loop μ-loop
-returns-2 c = sym (same-differs _ _ (λ e. c .if2 .taken (ap (λ l. getD l (c .before .before .before .before .loop .i) 0) e)))
+returns-2 c =
+    let i = c .before .before .before .before .loop .i in
+    sym (same-differs _ _ (λ e. c .if2 .taken (ap (λ l. getD l i 0) e)))
 
 add-i : tie.Need-add-i Inv-loop μ-loop
 add-i c = omega arith
@@ -52,7 +53,8 @@ loop-again : tie.Need-loop-again Inv-loop μ-loop
 loop-again c =
     let i = c .before .before .before .before .loop .i in
     let h = c .before .before .before .before .loop .inv in
-    (h .0, omega arith, one-more i _ _ (c .before .before .before .loop-test .taken) (omega arith) (h .2) (c .if2 .left))
+    let less = c .before .before .before .loop-test .taken in
+    (h .0, omega arith, one-more i _ _ less (omega arith) (h .2) (c .if2 .left))
 
 returns-3 : tie.Need-returns-3 Inv-loop μ-loop
 returns-3 c =

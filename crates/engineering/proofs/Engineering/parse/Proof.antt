@@ -1,5 +1,5 @@
--- `engineering::Engineering::parse` meets its contract: where it leaves, something of `Fits` does not hold; at the end all
--- of it does, and the fields are those of the block. Assumes nothing.
+-- `engineering::Engineering::parse` meets its contract: where it leaves, something of `Fits` does not hold; at the end
+-- all of it does, and the fields are those of the block. Assumes nothing.
 use mathlib.Core.Path.{sym, _∙_}
 use borrow.Author.Needs.{needs}
 use native.Mathlib.Omega.{arith}

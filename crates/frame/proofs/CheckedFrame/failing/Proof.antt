@@ -1,9 +1,6 @@
 use borrow.Author.Needs.{needs}
 use Rattle.frame.proofs.CheckedFrame.failing.Statement.{statement}
 use Rattle.frame.proofs.CheckedFrame.failing.Tie as tie
-use Rattle.frame.proofs.CheckedFrame.failing.Reads as reads
-use Rattle.frame.proofs.CheckedFrame.failing.Lts as lts
-use Rattle.frame.proofs.Frame.none.Reads as none-reads
 
 none-requires : tie.Need-none-requires
 none-requires c κs = search needs

@@ -8,41 +8,47 @@ use denote.Ref.{now}
 use borrow.Author.Tests.{not-true, not-false}
 use borrow.Rule.Slice.PartAt.{part-to-end}
 use Rattle.wire.proofs.Numbers.{There, le16-some, le16-none}
+use Rattle.wire.specs.declared.Kind.{Kind}
 use Rattle.wire.specs.declared.MaybeKind.the-variants as Found
 use Rattle.frame.specs.Frame.{family, announced, decoded}
 use Rattle.frame.proofs.Answers.{short-family, fails-F1, fails-F2, fails-F3, fails-F4, passes-framing}
 use borrow.Author.Needs.{needs}
 use Rattle.frame.proofs.Frame.checked.Statement.{statement}
 use Rattle.frame.proofs.Frame.checked.Tie as tie
-use Rattle.frame.proofs.Frame.checked.Reads as reads
-use Rattle.frame.proofs.Frame.checked.Lts as lts
-use Rattle.frame.proofs.CheckedFrame.failing.Reads as failing-reads
-use Rattle.frame.proofs.Frame.decode_at.Reads as decode-at-reads
-use Rattle.wire.proofs.Kind.of_header.Reads as of-header-reads
-use Rattle.wire.proofs.Kind.tail.Reads as tail-reads
-use Rattle.wire.proofs.le16.Reads as le16-reads
-use Rattle.wire.proofs.same.Reads as same-reads
 
 failing-requires : tie.Need-failing-requires
 failing-requires c κs = search needs
 
--- The bytes, from two places on the way.
+-- What is known once the header is one, and once the length is there: the bytes, the family, the length.
 abbrev bytes : tie.After-known-told → List ℕ
 bytes c = now (c .before .before .before .before .before .before .before .args .bytes)
 
+abbrev kind : tie.After-known-told → Kind
+kind c = c .before .kind .given .0 .0
+
+abbrev headed : tie.After-known-told2 → tie.After-known-told
+headed c = c .before .before .before .before
+
+abbrev len : tie.After-known-told2 → ℕ
+len c = c .before .len .given .0 .0
+
 -- The family that the header announces.
-announces : (c : tie.After-known-told) → family (bytes c) ≡ Found.Some (c .before .kind .given .0 .0)
+announces : (c : tie.After-known-told) → family (bytes c) ≡ Found.Some (kind c)
 announces c = sym (c .before .before .before .of-header .ensures) ∙ c .before .kind .given .1
 
 -- The two length bytes, and the length that they are.
-length-there : (c : tie.After-known-told2) → There 2 (bytes (c .before .before .before .before)) 4 (c .before .len .given .0 .0)
+length-there : (c : tie.After-known-told2) → There 2 (bytes (headed c)) 4 (len c)
 length-there c = le16-some _ 4 _ (sym (c .before .before .before .le16 .ensures) ∙ c .before .len .given .1)
 
 returns : tie.Need-returns
-returns c = c .failing .ensures ∙ sym (fails-F1 _ (short-family (now (c .before .before .before .args .bytes)) (c .before .if1 .taken)))
+returns c =
+    let s = now (c .before .before .before .args .bytes) in
+    c .failing .ensures ∙ sym (fails-F1 s (short-family s (c .before .if1 .taken)))
 
 slice-aggregate-of-header : tie.Need-slice-aggregate-of-header
-slice-aggregate-of-header c = sym (length-take-le 4 (now (c .before .before .before .args .bytes)) (c .before .if1 .left))
+slice-aggregate-of-header c =
+    let s = now (c .before .before .before .args .bytes) in
+    sym (length-take-le 4 s (c .before .if1 .left))
 
 of-header-requires : tie.Need-of-header-requires
 of-header-requires c κs = search needs
@@ -89,9 +95,10 @@ failing-requires-4 c κs = search needs
 
 returns-4 : tie.Need-returns-4
 returns-4 c =
-    let at = length-there (c .before .before) in
-    c .failing4 .ensures ∙ sym (fails-F3 _ _ (announces (c .before .before .before .before .before .before)) (at .inside)
-    (omega (arith, at .value, c .before .if2 .taken)))
+    let read = c .before .before in
+    let at = length-there read in
+    c .failing4 .ensures
+    ∙ sym (fails-F3 _ _ (announces (headed read)) (at .inside) (omega (arith, at .value, c .before .if2 .taken)))
 
 tail-requires : tie.Need-tail-requires
 tail-requires c κs = search needs
@@ -116,11 +123,13 @@ failing-requires-5 c κs = search needs
 
 returns-5 : tie.Need-returns-5
 returns-5 c =
-    let at = length-there (c .before .before .before .before .before .before .before) in
+    let ends = c .before .before .before .before .before in
+    let read = ends .before .before in
+    let at = length-there read in
     let last = sym (c .before .before .same .ensures) ∙ not-true _ (c .before .if3 .taken) in
-    c .failing5 .ensures ∙ sym (fails-F4 _ _ (announces (c .before .before .before .before .before .before .before .before .before .before .before)) (at .inside)
-    (omega (arith, at .value, c .before .before .before .before .before .before .if2 .left))
-    (rw (part-to-end, c .before .before .before .before .before .tail .ensures, at .value) at last))
+    c .failing5 .ensures
+    ∙ sym (fails-F4 _ _ (announces (headed read)) (at .inside) (omega (arith, at .value, ends .before .if2 .left))
+    (rw (part-to-end, ends .tail .ensures, at .value) at last))
 
 sub-decode-at : tie.Need-sub-decode-at
 sub-decode-at c = search needs
@@ -139,14 +148,15 @@ decode-at-requires c κs = search needs
 
 returns-6 : tie.Need-returns-6
 returns-6 c =
-    let at = length-there (c .before .before .before .before .before .before .before .before) in
+    let ends = c .before .before .before .before .before .before in
+    let read = ends .before .before in
+    let head = headed read in
+    let at = length-there read in
     let last = sym (c .before .before .before .same .ensures) ∙ not-false _ (c .before .before .if3 .left) in
-    let held : 6 + c .before .before .before .before .before .before .before .before .before .len .given .0 .0 - 6 ≡ announced (bytes (c .before .before .before .before .before .before .before .before .before .before .before .before)) = omega (arith, at .value) in
-    c .decode-at .ensures
-    ∙ ap (λ n. decoded 10 (c .before .before .before .before .before .before .before .before .before .before .before .before .before .kind .given .0 .0) (take n (drop 6 (bytes (c .before .before .before .before .before .before .before .before .before .before .before .before))))) held
-    ∙ sym (passes-framing _ _ (announces (c .before .before .before .before .before .before .before .before .before .before .before .before)) (at .inside)
-    (omega (arith, at .value, c .before .before .before .before .before .before .before .if2 .left))
-    (rw (part-to-end, c .before .before .before .before .before .before .tail .ensures, at .value) at last))
+    let held : 6 + len read - 6 ≡ announced (bytes head) = omega (arith, at .value) in
+    c .decode-at .ensures ∙ ap (λ n. decoded 10 (kind head) (take n (drop 6 (bytes head)))) held
+    ∙ sym (passes-framing _ _ (announces head) (at .inside) (omega (arith, at .value, ends .before .if2 .left))
+    (rw (part-to-end, ends .tail .ensures, at .value) at last))
 
 pub checked-spec : {M : Type 1} → statement M
 checked-spec =

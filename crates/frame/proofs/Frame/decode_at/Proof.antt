@@ -2,10 +2,6 @@ use Rattle.frame.specs.Frame.{decoded}
 use borrow.Author.Needs.{needs}
 use Rattle.frame.proofs.Frame.decode_at.Statement.{statement}
 use Rattle.frame.proofs.Frame.decode_at.Tie as tie
-use Rattle.frame.proofs.Frame.decode_at.Reads as reads
-use Rattle.frame.proofs.Frame.decode_at.Lts as lts
-use Rattle.frame.proofs.Frame.of_ack.Reads as of-ack-reads
-use Rattle.frame.proofs.Frame.of_report.Reads as of-report-reads
 
 enum-told : tie.Need-enum-told
 enum-told c = search needs

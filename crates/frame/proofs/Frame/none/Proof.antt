@@ -1,10 +1,6 @@
 use borrow.Author.Needs.{needs}
 use Rattle.frame.proofs.Frame.none.Statement.{statement}
 use Rattle.frame.proofs.Frame.none.Tie as tie
-use Rattle.frame.proofs.Frame.none.Reads as reads
-use Rattle.frame.proofs.Frame.none.Lts as lts
-use Rattle.frame.proofs.no_ack.Reads as no-ack-reads
-use Rattle.report.proofs.no_report.Reads as no-report-reads
 
 no-report-requires : tie.Need-no-report-requires
 no-report-requires c κs = search needs

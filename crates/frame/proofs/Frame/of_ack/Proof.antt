@@ -1,13 +1,8 @@
-use mathlib.Core.Path.{_≡_, sym, ap, _∙_}
+use mathlib.Core.Path.{sym, _∙_}
 use Rattle.frame.proofs.Bodies.{ack-fails, ack-passes}
 use borrow.Author.Needs.{needs}
 use Rattle.frame.proofs.Frame.of_ack.Statement.{statement}
 use Rattle.frame.proofs.Frame.of_ack.Tie as tie
-use Rattle.frame.proofs.Frame.of_ack.Reads as reads
-use Rattle.frame.proofs.Frame.of_ack.Lts as lts
-use Rattle.ack.proofs.Ack.checked.Reads as checked-reads
-use Rattle.frame.proofs.CheckedFrame.failing.Reads as failing-reads
-use Rattle.report.proofs.no_report.Reads as no-report-reads
 
 checked-requires : tie.Need-checked-requires
 checked-requires c κs = search needs

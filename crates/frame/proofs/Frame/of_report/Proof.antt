@@ -1,13 +1,8 @@
-use mathlib.Core.Path.{_≡_, sym, ap, _∙_}
+use mathlib.Core.Path.{sym, ap, _∙_}
 use Rattle.frame.proofs.Bodies.{report-fails, report-passes}
 use borrow.Author.Needs.{needs}
 use Rattle.frame.proofs.Frame.of_report.Statement.{statement}
 use Rattle.frame.proofs.Frame.of_report.Tie as tie
-use Rattle.frame.proofs.Frame.of_report.Reads as reads
-use Rattle.frame.proofs.Frame.of_report.Lts as lts
-use Rattle.frame.proofs.CheckedFrame.failing.Reads as failing-reads
-use Rattle.frame.proofs.no_ack.Reads as no-ack-reads
-use Rattle.report.proofs.Report.checked.Reads as checked-reads
 
 checked-requires : tie.Need-checked-requires
 checked-requires c κs = search needs
@@ -25,8 +20,10 @@ no-ack-requires : tie.Need-no-ack-requires
 no-ack-requires c κs = search needs
 
 returns : tie.Need-returns
-returns c = let read = c .before .before .before .before .checked .ensures in
-    c .failing .ensures ∙ sym (report-fails 4 _ _ (ap (λ r. r .failed) (sym read) ∙ c .before .before .failed .given .1))
+returns c =
+    let read = c .before .before .before .before .checked .ensures in
+    c .failing .ensures
+    ∙ sym (report-fails 4 _ _ (ap (λ r. r .failed) (sym read) ∙ c .before .before .failed .given .1))
 
 returns-2 : tie.Need-returns-2
 returns-2 c =

@@ -3,10 +3,6 @@ use Rattle.frame.proofs.Answers.{parsed-causes}
 use borrow.Author.Needs.{needs}
 use Rattle.frame.proofs.Frame.parse.Statement.{statement}
 use Rattle.frame.proofs.Frame.parse.Tie as tie
-use Rattle.frame.proofs.Frame.parse.Reads as reads
-use Rattle.frame.proofs.Frame.parse.Lts as lts
-use Rattle.frame.proofs.Frame.checked.Reads as checked-reads
-use Rattle.refusal.proofs.MaybeCheck.outcome.Reads as outcome-reads
 
 checked-requires : tie.Need-checked-requires
 checked-requires c κs = search needs

@@ -1,5 +1,5 @@
--- `parser::Parser::cleared` meets its contract. The parser's type says that its buffer has room and that no counter is past
--- its most, so that demand 3 holds behind a reset of any parser. Assumes nothing.
+-- `parser::Parser::cleared` meets its contract. The parser's type says that its buffer has room and that no counter is
+-- past its most, so that demand 3 holds behind a reset of any parser. Assumes nothing.
 use mathlib.Core.Path.{refl}
 use native.Mathlib.Omega.{arith}
 use lib.ListN.{length-map}

@@ -1,7 +1,7 @@
 -- `parser::Parser::fed` meets its contract: what the step ended is emitted. Assumes nothing.
 use borrow.Author.Needs.{needs}
 use Rattle.parser.specs.Feed.{movedOf, bufOf, feedOf}
-use Rattle.parser.proofs.Emits.{emits-frame, emits-none}
+use Rattle.parser.proofs.Endings.{emits-frame, emits-none}
 use Rattle.parser.proofs.Parser.fed.Statement.{statement}
 use Rattle.parser.proofs.Parser.fed.Tie as tie
 

@@ -1,9 +1,6 @@
 use borrow.Author.Needs.{needs}
 use Rattle.refusal.proofs.MaybeCheck.outcome.Statement.{statement}
 use Rattle.refusal.proofs.MaybeCheck.outcome.Tie as tie
-use Rattle.refusal.proofs.MaybeCheck.outcome.Reads as reads
-use Rattle.refusal.proofs.MaybeCheck.outcome.Lts as lts
-use Rattle.refusal.proofs.Check.error.Reads as error-reads
 
 -- src/lib.rt:164:30
 enum-known-self : tie.Need-enum-known-self

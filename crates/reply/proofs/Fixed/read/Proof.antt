@@ -74,7 +74,8 @@ returns-5 c =
     let gate = byte-some _ _ _ (sym (second .byte-at2 .ensures) ∙ third .before .before .max-gate .given .1) in
     let moving = byte-some _ _ _ (sym (third .byte-at3 .ensures) ∙ fourth .before .before .max-moving-gate .given .1) in
     let stationary = byte-some _ _ _ (sym (fourth .byte-at4 .ensures) ∙ c .before .max-stationary-gate .given .1) in
-    rw (there-byte _ _ head, there-byte _ _ gate, there-byte _ _ moving, there-byte _ _ stationary) (sym (fixed-there _ (omega arith)))
+    rw (there-byte _ _ head, there-byte _ _ gate, there-byte _ _ moving, there-byte _ _ stationary)
+    (sym (fixed-there _ (omega arith)))
 
 pub read-spec : {M : Type 1} → statement M
 read-spec =

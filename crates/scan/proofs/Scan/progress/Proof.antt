@@ -4,8 +4,6 @@ use Rattle.stream.specs.Link.{linkMost}
 use Rattle.scan.proofs.Orders.{length-matched, data-inside, data-most, tail-matched, tail-most}
 use Rattle.scan.proofs.Scan.progress.Statement.{statement}
 use Rattle.scan.proofs.Scan.progress.Tie as tie
-use Rattle.scan.proofs.Scan.progress.Reads as reads
-use Rattle.scan.proofs.Scan.progress.Lts as lts
 
 enum-told : tie.Need-enum-told
 enum-told c = search needs
@@ -14,13 +12,18 @@ enum-told-2 : tie.Need-enum-told-2
 enum-told-2 c = search needs
 
 add-result : tie.Need-add-result
-add-result c = omega (arith, length-matched linkMost _ (c .before .before .before .pre) (c .before .enum-told2 .given .1))
+add-result c =
+    let matched = length-matched linkMost _ (c .before .before .before .pre) (c .before .enum-told2 .given .1) in
+    omega arith
 
 enum-told-3 : tie.Need-enum-told-3
 enum-told-3 c = search needs
 
 add-result-2 : tie.Need-add-result-2
-add-result-2 c = omega (arith, data-inside linkMost _ (c .before .before .before .pre) (c .before .enum-told3 .given .1), data-most linkMost _ (c .before .before .before .pre) (c .before .enum-told3 .given .1))
+add-result-2 c =
+    let order = c .before .before .before .pre in
+    let state = c .before .enum-told3 .given .1 in
+    omega (arith, data-inside linkMost _ order state, data-most linkMost _ order state)
 
 enum-told-4 : tie.Need-enum-told-4
 enum-told-4 c = search needs
@@ -29,7 +32,10 @@ add-result-3 : tie.Need-add-result-3
 add-result-3 c = omega (arith, tail-most linkMost _ (c .before .before .before .pre) (c .before .enum-told4 .given .1))
 
 add-result-4 : tie.Need-add-result-4
-add-result-4 c = omega (arith, tail-most linkMost _ (c .before .before .before .before .pre) (c .before .before .enum-told4 .given .1), tail-matched linkMost _ (c .before .before .before .before .pre) (c .before .before .enum-told4 .given .1))
+add-result-4 c =
+    let order = c .before .before .before .before .pre in
+    let state = c .before .before .enum-told4 .given .1 in
+    omega (arith, tail-most linkMost _ order state, tail-matched linkMost _ order state)
 
 returns : tie.Need-returns
 returns c = search needs

@@ -1,6 +1,6 @@
 -- `wire::Kind::starting_with` meets its contract: each arm's pattern decides the tests of `startingWith`.
 -- Assumes nothing.
-use borrow.Author.Tests.{eq-eqb, ne-eqb}
+use borrow.Author.Tests.{ne-eqb}
 use Rattle.wire.proofs.Kind.starting_with.Statement.{statement}
 use Rattle.wire.proofs.Kind.starting_with.Tie as tie
 

@@ -1,4 +1,4 @@
--- What is emitted where a frame ended, and where none did.
+-- A frame that ended, decoded and counted, is what is emitted.
 use mathlib.Core.Path.{_≡_, refl}
 use mathlib.Core.List.{List}
 use Prim.Native.Nat.{ℕ}

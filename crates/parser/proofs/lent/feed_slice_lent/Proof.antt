@@ -7,9 +7,9 @@ use Rattle.parser.proofs.Answers.{taken-told, taken-handed}
 use Rattle.parser.proofs.LocalFeed.{local-feed}
 use Rattle.parser.proofs.Parser.feed_slice.Symbol as g
 use Rattle.parser.proofs.Parser.feed_slice.Met as g-thm
-use Rattle.parser.proofs.feed_slice_lent.Key as key
-use Rattle.parser.proofs.feed_slice_lent.Statement as stated
-use Rattle.parser.proofs.feed_slice_lent.Code as code
+use Rattle.parser.proofs.lent.feed_slice_lent.Key as key
+use Rattle.parser.proofs.lent.feed_slice_lent.Statement as stated
+use Rattle.parser.proofs.lent.feed_slice_lent.Code as code
 
 pub feed-slice-lent-spec : {M : Type 1} → stated.statement M
 unfolding code.routine

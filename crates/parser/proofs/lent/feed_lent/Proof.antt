@@ -6,9 +6,9 @@ use Rattle.parser.proofs.Answers.{frame-told, frame-handed}
 use Rattle.parser.proofs.LocalFeed.{local-feed}
 use Rattle.parser.proofs.Parser.feed.Symbol as g
 use Rattle.parser.proofs.Parser.feed.Met as g-thm
-use Rattle.parser.proofs.feed_lent.Key as key
-use Rattle.parser.proofs.feed_lent.Statement as stated
-use Rattle.parser.proofs.feed_lent.Code as code
+use Rattle.parser.proofs.lent.feed_lent.Key as key
+use Rattle.parser.proofs.lent.feed_lent.Statement as stated
+use Rattle.parser.proofs.lent.feed_lent.Code as code
 
 pub feed-lent-spec : {M : Type 1} → stated.statement M
 unfolding code.routine

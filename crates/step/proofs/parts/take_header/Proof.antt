@@ -1,5 +1,5 @@
--- `step::take_header` meets its contract. The loop's invariant is `Within`: it stands in a header, and the run from
--- here is the run from the start. The measure is what is left of the bytes. Assumes nothing.
+-- `step::parts::take_header` meets its contract. The loop's invariant is `Within`: it stands in a header, and the run
+-- from here is the run from the start. The measure is what is left of the bytes. Assumes nothing.
 use borrow.Author.Needs.{needs}
 use mathlib.Core.Path.{_≡_, refl}
 use mathlib.Core.Logic.{_⊎_, ⊎-elim}
@@ -10,8 +10,8 @@ use Rattle.stream.specs.Link.{linkMost}
 use Rattle.scan.specs.declared.State.the-variants.{Header, Len}
 use Rattle.scan.proofs.Orders.{header-matched}
 use Rattle.step.proofs.Phases.{Within, within-start, within-then, within-taking, within-stays, within-headed}
-use Rattle.step.proofs.take_header.Statement.{statement}
-use Rattle.step.proofs.take_header.Tie as tie
+use Rattle.step.proofs.parts.take_header.Statement.{statement}
+use Rattle.step.proofs.parts.take_header.Tie as tie
 
 abbrev Inv-loop : tie.InvT-loop
 Inv-loop bytes from at₀ counted₀ i₀ at counted i = Within linkMost Header at₀ counted₀ bytes i₀ at counted i

@@ -1,7 +1,7 @@
--- `step::take_some` meets its contract, since what each state takes does. Assumes nothing.
+-- `step::parts::take_some` meets its contract, since what each state takes does. Assumes nothing.
 use borrow.Author.Needs.{needs}
-use Rattle.step.proofs.take_some.Statement.{statement}
-use Rattle.step.proofs.take_some.Tie as tie
+use Rattle.step.proofs.parts.take_some.Statement.{statement}
+use Rattle.step.proofs.parts.take_some.Tie as tie
 
 enum-told : tie.Need-enum-told
 enum-told c = search needs

@@ -1,5 +1,5 @@
--- `step::take_data` meets its contract. The loop's invariant is `Copied`: with j bytes copied, the run from here is
--- the run from the start. The measure is what is left to copy. Assumes nothing.
+-- `step::parts::take_data` meets its contract. The loop's invariant is `Copied`: with j bytes copied, the run from here
+-- is the run from the start. The measure is what is left to copy. Assumes nothing.
 use borrow.Author.Needs.{needs}
 use mathlib.Core.Path.{_≡_, refl}
 use Prim.Native.Nat.{_+_, _-_, _≤_}
@@ -9,8 +9,8 @@ use Rattle.step.proofs.Copies.{Due, least-due, due-whole, Copied, copie
 use Rattle.step.proofs.Copies.{copied-stands, copied-then}
 use Rattle.scan.proofs.Orders.{data-inside}
 use Rattle.scan.proofs.Starts.{data-whole}
-use Rattle.step.proofs.take_data.Statement.{statement}
-use Rattle.step.proofs.take_data.Tie as tie
+use Rattle.step.proofs.parts.take_data.Statement.{statement}
+use Rattle.step.proofs.parts.take_data.Tie as tie
 
 abbrev Inv-loop : tie.InvT-loop
 Inv-loop buf₀ stats bytes from kind len pos n j₀ buf j =

@@ -1,5 +1,5 @@
--- `step::scan_slice` meets its contract. The loop's invariant is `Left`: what is left of the bytes, run from here,
--- comes to what all of them come to. The measure is their number. Assumes nothing.
+-- `step::parts::scan_slice` meets its contract. The loop's invariant is `Left`: what is left of the bytes, run from
+-- here, comes to what all of them come to. The measure is their number. Assumes nothing.
 use borrow.Author.Needs.{needs}
 use mathlib.Core.Path.{_≡_, refl, ap}
 use Prim.Native.Nat.{_-_}
@@ -9,8 +9,8 @@ use Rattle.stream.specs.Link.{linkMost}
 use Rattle.step.specs.Slice.{Run, runOf}
 use Rattle.scan.specs.declared.Ended.the-variants.{Nothing}
 use Rattle.step.proofs.Runs.{Left, left-start, left-end, left-frame, left-on}
-use Rattle.step.proofs.scan_slice.Statement.{statement}
-use Rattle.step.proofs.scan_slice.Tie as tie
+use Rattle.step.proofs.parts.scan_slice.Statement.{statement}
+use Rattle.step.proofs.parts.scan_slice.Tie as tie
 
 abbrev Inv-loop : tie.InvT-loop
 Inv-loop buf₀ bytes at₀ counted₀ ended₀ i₀ buf at counted ended i =

@@ -8,9 +8,9 @@ use Rattle.parser.specs.Claims.{FromHere, Determined}
 use Rattle.parser.proofs.LocalReset.{local-reset}
 use Rattle.parser.proofs.Parser.reset.Symbol as g
 use Rattle.parser.proofs.Parser.reset.Met as g-thm
-use Rattle.parser.proofs.reset_lent.Key as key
-use Rattle.parser.proofs.reset_lent.Statement as stated
-use Rattle.parser.proofs.reset_lent.Code as code
+use Rattle.parser.proofs.lent.reset_lent.Key as key
+use Rattle.parser.proofs.lent.reset_lent.Statement as stated
+use Rattle.parser.proofs.lent.reset_lent.Code as code
 
 pub reset-lent-spec : {M : Type 1} → stated.statement M
 unfolding code.routine

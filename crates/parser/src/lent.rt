@@ -1,0 +1,86 @@
+// The parser where it stands: the feeds and the reset of a parser that is lent, and the same of a local.
+use super::Fed;
+use super::FedSlice;
+use super::Parser;
+use super::Taken;
+use super::feed_at;
+use super::feed_slice_at;
+use frame::Frame;
+use scan::Scan;
+ghost use mathlib.Core.Path.{_≡_};
+ghost use Rattle.stream.specs.Link.{linkMost};
+ghost use Rattle.parser.specs.Feed.{feedOf, feedSliceOf, resetOf};
+ghost use Rattle.parser.specs.Claims.{FromHere, Determined};
+
+impl Parser {
+    // `fed` on a parser that is lent: it stays where it is, and nothing of its buffer is copied.
+    pub fn feed(&mut self, byte: u8) -> Frame
+        ensures fed { λ r. ⌜ (r ≡ feedOf linkMost (now (self .entry)) byte .answer)
+            × (now (self .exit) ≡ feedOf linkMost (now (self .entry)) byte .parser) ⌝ }
+    {
+        let scan = self.scan;
+        let stats = self.stats;
+        let moved = feed_at(&mut self.buf, scan, stats, byte);
+        self.scan = moved.scan;
+        self.stats = moved.stats;
+        moved.answer
+    }
+
+    // `fed_slice` on a parser that is lent.
+    pub fn feed_slice(&mut self, bytes: &[u8]) -> Taken
+        ensures fed { λ r. ⌜ (r ≡ feedSliceOf linkMost (now (self .entry)) (now (bytes .entry)) .answer)
+            × (now (self .exit) ≡ feedSliceOf linkMost (now (self .entry)) (now (bytes .entry)) .parser) ⌝ }
+    {
+        let scan = self.scan;
+        let stats = self.stats;
+        let run = feed_slice_at(&mut self.buf, scan, stats, bytes);
+        self.scan = run.scan;
+        self.stats = run.stats;
+        run.answer
+    }
+
+    // `cleared` on a parser that is lent.
+    pub fn reset(&mut self)
+        ensures reset { λ _. ⌜ now (self .exit) ≡ resetOf (now (self .entry)) ⌝ }
+        ensures fulfilled { λ _. ⌜ FromHere (now (self .exit)) ⌝ }
+        ensures determined { λ _. ⌜ Determined (now (self .exit)) ⌝ }
+    {
+        self.scan = Scan::hunting();
+    }
+}
+
+// `Parser::fed`, by a local that is lent to `Parser::feed`. Who calls this, or one of the two below, lends nothing, and
+// needs no proof about memory.
+pub fn feed_lent(parser: Parser, byte: u8) -> Fed
+    ensures fed { λ r. ⌜ r ≡ feedOf linkMost parser byte ⌝ }
+{
+    let mut lent = parser;
+    let answer = lent.feed(byte);
+    Fed {
+        parser: lent,
+        answer,
+    }
+}
+
+// `Parser::fed_slice`, by a local that is lent to `Parser::feed_slice`.
+pub fn feed_slice_lent(parser: Parser, bytes: &[u8]) -> FedSlice
+    ensures fed { λ r. ⌜ r ≡ feedSliceOf linkMost parser (now (bytes .entry)) ⌝ }
+{
+    let mut lent = parser;
+    let answer = lent.feed_slice(bytes);
+    FedSlice {
+        parser: lent,
+        answer,
+    }
+}
+
+// `Parser::cleared`, by a local that is lent to `Parser::reset`.
+pub fn reset_lent(parser: Parser) -> Parser
+    ensures reset { λ r. ⌜ r ≡ resetOf parser ⌝ }
+    ensures fulfilled { λ r. ⌜ FromHere r ⌝ }
+    ensures determined { λ r. ⌜ Determined r ⌝ }
+{
+    let mut lent = parser;
+    lent.reset();
+    lent
+}

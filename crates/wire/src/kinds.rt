@@ -1,0 +1,62 @@
+// The two frame families: their headers and tails, and the family that bytes announce.
+use super::Kind;
+use super::MaybeKind;
+use super::same;
+ghost use mathlib.Core.Path.{_≡_};
+ghost use Rattle.wire.specs.Family.{header, tail, startingWith, headerOf};
+
+impl Kind {
+    pub const REPORT_HEADER: [u8; 4] = [0xF4, 0xF3, 0xF2, 0xF1];
+
+    pub const REPORT_TAIL: [u8; 4] = [0xF8, 0xF7, 0xF6, 0xF5];
+
+    pub const COMMAND_HEADER: [u8; 4] = [0xFD, 0xFC, 0xFB, 0xFA];
+
+    pub const COMMAND_TAIL: [u8; 4] = [0x04, 0x03, 0x02, 0x01];
+
+    // The four bytes that begin a frame of this family.
+    pub fn header(self) -> [u8; 4]
+        ensures headed { λ r. ⌜ r ≡ header self ⌝ }
+    {
+        match self {
+            Kind::Report => Kind::REPORT_HEADER,
+            Kind::Command => Kind::COMMAND_HEADER,
+        }
+    }
+
+    // The four bytes that end it.
+    pub fn tail(self) -> [u8; 4]
+        ensures tailed { λ r. ⌜ r ≡ tail self ⌝ }
+    {
+        match self {
+            Kind::Report => Kind::REPORT_TAIL,
+            Kind::Command => Kind::COMMAND_TAIL,
+        }
+    }
+
+    // The family whose header starts with `byte`, if any.
+    pub fn starting_with(byte: u8) -> MaybeKind
+        ensures found { λ r. ⌜ r ≡ startingWith byte ⌝ }
+    {
+        match byte {
+            0xF4 => MaybeKind::Some(Kind::Report),
+            0xFD => MaybeKind::Some(Kind::Command),
+            _ => MaybeKind::None,
+        }
+    }
+
+    // The family whose header the four bytes are, if they are one.
+    pub fn of_header(bytes: &[u8]) -> MaybeKind
+        ensures found { λ r. ⌜ r ≡ headerOf (now (bytes .entry)) ⌝ }
+    {
+        let report = Kind::REPORT_HEADER;
+        if same(bytes, &report) {
+            return MaybeKind::Some(Kind::Report);
+        }
+        let command = Kind::COMMAND_HEADER;
+        if same(bytes, &command) {
+            return MaybeKind::Some(Kind::Command);
+        }
+        MaybeKind::None
+    }
+}
