@@ -1,7 +1,8 @@
 -- Demand 3, from a parser in which nothing is pending: the theory of the stream, for this engine.
 use mathlib.Core.Path.{_≡_, refl, sym, ap, _∙_}
 use mathlib.Core.List.{List, []}
-use Prim.Native.Nat.{_+_, _<_}
+use mathlib.Core.Bool.{true, false}
+use Prim.Native.Nat.{ℕ, _+_, _<_}
 use native.Mathlib.Omega.{arith}
 use Rattle.framing.specs.Bytes.{Every}
 use Rattle.framing.specs.Tally.{sum, framed}
@@ -13,9 +14,15 @@ use Rattle.framing.proofs.Same.{same}
 use Rattle.stream.specs.Link.{link}
 use Rattle.stream.specs.Deliver.{frames, resyncs, dropped, malformed}
 use Rattle.stream.specs.Decoding.{decoding, counting}
-use Rattle.parser.specs.Feed.{fresh, resetOf, unfinishedOf}
+use Rattle.scan.specs.Scan.{hunting, inOrder, settled}
+use Rattle.scan.specs.declared.Scan.{Scan}
+use Rattle.scan.specs.declared.Stats.{Stats}
+use Rattle.step.specs.Slice.{runOf}
+use Rattle.scan.proofs.Orders.{settled-same, settled-out}
+use Rattle.parser.specs.Feed.{fresh, movedOf, bufOf, sliceMovedOf, sliceBufOf, feedOf, feedSliceOf}
+use Rattle.parser.specs.Feed.{resetOf, unfinishedOf}
 use Rattle.parser.specs.Engine.{pendingBy, engine}
-use Rattle.parser.specs.Claims.{did, left, FromHere, Accounted, Determined}
+use Rattle.parser.specs.Claims.{did, left, FromHere, Accounted, Determined, ResetFirst}
 use Rattle.parser.specs.declared.Parser.{Parser}
 use Rattle.parser.proofs.Feeding.{Valid}
 use Rattle.parser.proofs.Engines.{lawful, hunting-pending}
@@ -80,3 +87,29 @@ pub reset-claims : (p : Parser) → Valid 54 p → FromHere (resetOf p) × Deter
 reset-claims p v =
     let w = reset-valid p v in
     (fulfilled (resetOf p) w (nothing-in p), determined (resetOf p) w (nothing-in p))
+
+-- A parser out of range is fed as what a reset leaves of it.
+hunting-order : inOrder 54 hunting ≡ true
+unfolding inOrder
+hunting-order = refl
+
+module _ (c : Scan) (e : inOrder 54 c ≡ false) (st : Stats) (buf : List ℕ) where
+  settled-as : settled 54 c ≡ settled 54 hunting
+  settled-as = settled-out 54 c e ∙ sym (settled-same 54 hunting hunting-order)
+
+  byte-first : (b : ℕ) → (movedOf 54 c st buf b ≡ movedOf 54 hunting st buf b)
+      × (bufOf 54 c buf b ≡ bufOf 54 hunting buf b)
+  unfolding movedOf bufOf
+  byte-first b = (rw settled-as, rw settled-as)
+
+  slice-first : (bs : List ℕ) → (sliceMovedOf 54 c st buf bs ≡ sliceMovedOf 54 hunting st buf bs)
+      × (sliceBufOf 54 c st buf bs ≡ sliceBufOf 54 hunting st buf bs)
+  unfolding sliceMovedOf sliceBufOf
+  slice-first bs = (rw settled-as, ap (λ x. runOf 54 x st buf bs .buf) settled-as)
+
+pub reset-first : (p : Parser) → ResetFirst p (resetOf p)
+unfolding feedOf feedSliceOf
+reset-first p = record {
+  of-byte = λ e b. let h = byte-first (p .scan) e (p .stats) (p .buf) b in rw (h .0, h .1);
+  of-slice = λ e bs. let h = slice-first (p .scan) e (p .stats) (p .buf) bs in rw (h .0, h .1);
+}

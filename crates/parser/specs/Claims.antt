@@ -4,12 +4,13 @@
 --   FromHere p          it holds of every list of calls that pass bytes
 --   Accounted p         from p, without a reset and while `dropped` is not full, no byte is unaccounted for
 --   Determined p        the claim leaves no choice: whatever satisfies it answers, tells and counts as this parser does
+--   ResetFirst p q      p, with a field out of range, is fed as q is, which is what a reset of p leaves
 -- A division and its pieces, calls, histories and stretches are those of the crate `framing`; what is open, what is a
 -- whole frame, what decodes and what is delivered those of the crate `stream`. 54 is the largest length, 4,294,967,295
 -- the most that a counter holds.
 use mathlib.Core.Path.{_≡_}
 use mathlib.Core.List.{List, _∷_, _++_, List·Memᴰ}
-use mathlib.Core.Bool.{not}
+use mathlib.Core.Bool.{false, not}
 use Prim.Native.Nat.{ℕ, _+_, _<_, min}
 use lib.ListN.{length}
 use Rattle.framing.specs.Bytes.{Every}
@@ -22,7 +23,8 @@ use Rattle.framing.specs.Correct.{CallRight, Correct, Same}
 use Rattle.stream.specs.Link.{link}
 use Rattle.stream.specs.Deliver.{Answer, decodes, Counter}
 use Rattle.stream.specs.Decoding.{decoding, counting}
-use Rattle.parser.specs.Feed.{unfinishedOf}
+use Rattle.scan.specs.Scan.{inOrder}
+use Rattle.parser.specs.Feed.{feedOf, feedSliceOf, unfinishedOf}
 use Rattle.parser.specs.Engine.{engine}
 use Rattle.parser.specs.declared.Parser.{Parser}
 
@@ -79,3 +81,8 @@ abbrev pub Determined : Parser → Type 0
 Determined p = (E : Engine Parser Answer Counter) (s : Parser) (calls : List Call) → Every ByteCall calls
     → Correct (link 54) decoding counting E s calls → E .most ≡ 4294967295
     → ((k : Counter) → E .counter k s ≡ engine 54 .counter k p) → Same E (engine 54) s p calls
+
+-- "A parser built by hand with fields out of range .. is handled as if reset came first."
+pub record ResetFirst (p q : Parser) : Type 0 where
+  pub of-byte : inOrder 54 (p .scan) ≡ false → (b : ℕ) → feedOf 54 p b ≡ feedOf 54 q b
+  pub of-slice : inOrder 54 (p .scan) ≡ false → (bs : List ℕ) → feedSliceOf 54 p bs ≡ feedSliceOf 54 q bs

@@ -13,7 +13,7 @@ use step::step_at;
 ghost use mathlib.Core.Path.{_≡_};
 ghost use Rattle.stream.specs.Link.{linkMost};
 ghost use Rattle.parser.specs.Feed.{feedOf, feedSliceOf, resetOf};
-ghost use Rattle.parser.specs.Claims.{FromHere, Determined};
+ghost use Rattle.parser.specs.Claims.{FromHere, Determined, ResetFirst};
 
 impl Parser {
     // Feeds one received byte; the answer is the frame that this byte completed, or no frame. A parser with a field out
@@ -93,11 +93,12 @@ impl Parser {
     }
 
     // Forgets a frame in progress and looks for a header again. The counters are kept. From what it returns, whatever
-    // parser it was given, every list of calls fulfils demand 3.
+    // parser it was given, every list of calls fulfils demand 3; and a parser with a field out of range is fed as it is.
     pub fn cleared(self) -> Self
         ensures reset { λ r. ⌜ r ≡ resetOf self ⌝ }
         ensures fulfilled { λ r. ⌜ FromHere r ⌝ }
         ensures determined { λ r. ⌜ Determined r ⌝ }
+        ensures first { λ r. ⌜ ResetFirst self r ⌝ }
     {
         let buf = self.buf;
         let stats = self.stats;

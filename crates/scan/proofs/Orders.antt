@@ -6,7 +6,7 @@ use lib.Dec.{leb, ltb}
 use borrow.Author.Tests.{ltb-true, leb-true, eq-eqb}
 use Rattle.wire.specs.declared.Kind.{Kind}
 use Rattle.stream.specs.Scan.{inRange}
-use Rattle.scan.specs.Scan.{at, inOrder, orHunting, settled}
+use Rattle.scan.specs.Scan.{at, hunting, inOrder, orHunting, settled}
 use Rattle.scan.specs.Scan.{pick, dataAt}
 use Rattle.scan.specs.declared.State.the-variants.{Header, Len, Data, Tail}
 use Rattle.scan.specs.declared.Scan.{Scan}
@@ -58,7 +58,7 @@ module _ (most : ℕ) (k : Kind) (n p : ℕ) (r : inRange most n ≡ true) where
       go true l = and-intro r l
       go false l = and-intro r (eq-eqb n n refl)
 
--- A settled scan is in order, and one in order is settled.
+-- A settled scan is in order, one in order is settled, and one out of order is settled by a reset.
 module _ (most : ℕ) where
   order-as : (c : Scan) (x : Bool) → inOrder most c ≡ x → inOrder most (orHunting x c) ≡ true
   unfolding inOrder
@@ -72,3 +72,7 @@ module _ (most : ℕ) where
   pub settled-same : (c : Scan) → inOrder most c ≡ true → settled most c ≡ c
   unfolding settled
   settled-same c e = rw e
+
+  pub settled-out : (c : Scan) → inOrder most c ≡ false → settled most c ≡ hunting
+  unfolding settled
+  settled-out c e = rw e

@@ -5,7 +5,7 @@ use native.Mathlib.Omega.{arith}
 use lib.ListN.{length-map}
 use borrow.Author.Needs.{needs}
 use Rattle.parser.proofs.Feeding.{Valid}
-use Rattle.parser.proofs.Demand.{reset-claims}
+use Rattle.parser.proofs.Demand.{reset-claims, reset-first}
 use Rattle.parser.proofs.Parser.cleared.Statement.{statement}
 use Rattle.parser.proofs.Parser.cleared.Tie as tie
 
@@ -19,7 +19,8 @@ returns c =
       room = omega (arith, length-map (p .buf) (λ v. v), c .before .before .before .good .0 .1 .1 .0 .1 .0 .1);
       capped = record { frames = omega arith; resyncs = omega arith; dropped = omega arith; malformed = omega arith };
     } in
-    rw (c .hunting .ensures) (refl, reset-claims p valid)
+    let claims = reset-claims p valid in
+    rw (c .hunting .ensures) (refl, (claims .0, (claims .1, reset-first p)))
 
 pub cleared-spec : {M : Type 1} → statement M
 cleared-spec = tie.close (tie.spec hunting-requires returns)
