@@ -24,7 +24,8 @@ use Rattle.scan.specs.Scan.{inOrder, settled, unfinishedBy}
 use Rattle.scan.specs.Start.{abandoned, startOf}
 use Rattle.step.specs.Step.{stepOf, stored}
 use Rattle.step.specs.Slice.{runOf}
-use Rattle.parser.specs.Feed.{fresh, bufOf, movedOf, sliceBufOf, sliceMovedOf, feedOf, feedSliceOf, unfinishedOf}
+use Rattle.parser.specs.Feed.{fresh, feedOf, feedSliceOf, unfinishedOf}
+use Rattle.feeding.specs.Moved.{bufOf, movedOf, sliceBufOf, sliceMovedOf}
 use Rattle.parser.specs.Claims.{did, left}
 use Rattle.cursor.specs.Written.{answerOf, bufferAfter, written}
 use Rattle.command.specs.Command.{commandFrame, unsupported}

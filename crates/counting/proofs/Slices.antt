@@ -14,7 +14,8 @@ use Rattle.framing.specs.Engine.{final}
 use Rattle.scan.specs.Scan.{inOrder, settled}
 use Rattle.step.specs.Step.{stepOf, stored}
 use Rattle.step.specs.Slice.{Run, runAt, thenRun, runOf}
-use Rattle.parser.specs.Feed.{emitted, put, bufOf, movedOf, feedOf, sliceBufOf, sliceMovedOf, feedSliceOf}
+use Rattle.feeding.specs.Moved.{emitted, bufOf, movedOf, sliceBufOf, sliceMovedOf}
+use Rattle.parser.specs.Feed.{put, feedOf, feedSliceOf}
 use Rattle.parser.specs.Engine.{engine}
 use Rattle.scan.specs.declared.Scan.{Scan}
 use Rattle.scan.specs.declared.Stats.{Stats}

@@ -20,8 +20,8 @@ use denote.Struct.Laws as LL
 use Rattle.parser.specs.declared.Parser.{Parser}
 use Rattle.scan.specs.declared.Scan.{Scan}
 use Rattle.scan.specs.declared.Stats.{Stats}
-use Rattle.parser.specs.declared.Moved.{Moved}
-use Rattle.parser.specs.declared.MovedSlice.{MovedSlice}
+use Rattle.feeding.specs.declared.Moved.{Moved}
+use Rattle.feeding.specs.declared.MovedSlice.{MovedSlice}
 use Rattle.parser.specs.declared.Fed.{Fed}
 use Rattle.parser.specs.declared.FedSlice.{FedSlice}
 use Rattle.frame.proofs.Frame as X
@@ -31,12 +31,12 @@ use Rattle.scan.proofs.Scan as C
 use Rattle.scan.proofs.Scan.Laws as C′
 use Rattle.scan.proofs.Stats as N
 use Rattle.scan.proofs.Stats.Laws as N′
-use Rattle.parser.proofs.Taken as Y
-use Rattle.parser.proofs.Taken.Laws as Y′
-use Rattle.parser.proofs.Moved as F
-use Rattle.parser.proofs.Moved.Laws as F′
-use Rattle.parser.proofs.MovedSlice as G
-use Rattle.parser.proofs.MovedSlice.Laws as G′
+use Rattle.feeding.proofs.Taken as Y
+use Rattle.feeding.proofs.Taken.Laws as Y′
+use Rattle.feeding.proofs.Moved as F
+use Rattle.feeding.proofs.Moved.Laws as F′
+use Rattle.feeding.proofs.MovedSlice as G
+use Rattle.feeding.proofs.MovedSlice.Laws as G′
 use Rattle.parser.proofs.Fed as D
 use Rattle.parser.proofs.Fed.Laws as D′
 use Rattle.parser.proofs.FedSlice as E

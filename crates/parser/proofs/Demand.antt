@@ -19,7 +19,8 @@ use Rattle.scan.specs.declared.Scan.{Scan}
 use Rattle.scan.specs.declared.Stats.{Stats}
 use Rattle.step.specs.Slice.{runOf}
 use Rattle.scan.proofs.Orders.{settled-same, settled-out}
-use Rattle.parser.specs.Feed.{fresh, movedOf, bufOf, sliceMovedOf, sliceBufOf, feedOf, feedSliceOf}
+use Rattle.parser.specs.Feed.{fresh, feedOf, feedSliceOf}
+use Rattle.feeding.specs.Moved.{movedOf, bufOf, sliceMovedOf, sliceBufOf}
 use Rattle.parser.specs.Feed.{resetOf, unfinishedOf}
 use Rattle.parser.specs.Engine.{pendingBy, engine}
 use Rattle.parser.specs.Claims.{did, left, FromHere, Accounted, Determined, ResetFirst}

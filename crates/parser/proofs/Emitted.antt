@@ -22,7 +22,8 @@ use Rattle.stream.specs.Deliver.{holds, decodes, delivered, frames, resyncs, dr
 use Rattle.stream.specs.Decoding.{decoding}
 use Rattle.stream.proofs.Delivered.{decodes-framed, delivered-framed, decoded-failed}
 use Rattle.scan.specs.Start.{counted}
-use Rattle.parser.specs.Feed.{emitted, put}
+use Rattle.feeding.specs.Moved.{emitted}
+use Rattle.parser.specs.Feed.{put}
 use Rattle.parser.specs.Engine.{answerOf}
 use Rattle.scan.specs.declared.Scan.{Scan}
 use Rattle.scan.specs.declared.Stats.{Stats}

@@ -14,7 +14,8 @@ use Rattle.stream.specs.Deliver.{Answer, Counter, frames, resyncs, dropped, mal
 use Rattle.stream.specs.Decoding.{decoding, counting}
 use Rattle.scan.specs.Scan.{inOrder, settled, pendingOf, unfinishedBy}
 use Rattle.step.specs.Step.{stepOf}
-use Rattle.parser.specs.Feed.{bufOf, movedOf, put, feedOf, sliceBufOf, sliceMovedOf, feedSliceOf, resetOf}
+use Rattle.feeding.specs.Moved.{bufOf, movedOf, sliceBufOf, sliceMovedOf}
+use Rattle.parser.specs.Feed.{put, feedOf, feedSliceOf, resetOf}
 use Rattle.parser.specs.Feed.{unfinishedOf}
 use Rattle.parser.specs.Engine.{counterIn, pendingBy, engine}
 use Rattle.scan.specs.declared.Scan.{Scan}

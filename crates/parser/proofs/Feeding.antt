@@ -15,14 +15,15 @@ use Rattle.stream.specs.Deliver.{decodes, Counter, frames, resyncs, dropped, ma
 use Rattle.stream.specs.Decoding.{decoding, counting}
 use Rattle.scan.specs.Scan.{inOrder, pendingOf}
 use Rattle.step.specs.Step.{stepOf, storedIn, stored}
-use Rattle.parser.specs.Feed.{emitted, put}
+use Rattle.feeding.specs.Moved.{emitted}
+use Rattle.parser.specs.Feed.{put}
 use Rattle.parser.specs.Engine.{answerOf, counterIn}
 use Rattle.scan.specs.declared.State.{State}
 use Rattle.scan.specs.declared.State.the-variants.{Header, Len, Data, Tail}
 use Rattle.scan.specs.declared.Scan.{Scan}
 use Rattle.parser.specs.declared.Parser.{Parser}
 use Rattle.scan.specs.declared.Stepped.{Stepped}
-use Rattle.parser.specs.declared.Moved.{Moved}
+use Rattle.feeding.specs.declared.Moved.{Moved}
 use Rattle.step.proofs.Follow.{Capped, Follows}
 use Rattle.step.proofs.Steps.{follows}
 use Rattle.parser.proofs.Emitted.{step-passed, emitted-scan, emitted-answer}

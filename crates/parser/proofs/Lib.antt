@@ -1,7 +1,5 @@
 -- What is emitted where a frame ended, and where none did.
 pub mod Emitted
--- A frame that ended, decoded and counted, is what is emitted.
-pub mod Endings
 -- A byte fed does what the scanner's step does.
 pub mod Feeding
 -- A slice fed does what its bytes do, fed one by one.

@@ -12,13 +12,14 @@ use Rattle.stream.specs.Decoding.{decoding}
 use Rattle.scan.specs.Scan.{inOrder}
 use Rattle.step.specs.Step.{stepOf, stored}
 use Rattle.step.specs.Slice.{Run, runAt, thenRun, runOf}
-use Rattle.parser.specs.Feed.{emitted, bufOf, movedOf, put, feedOf}
+use Rattle.feeding.specs.Moved.{emitted, bufOf, movedOf}
+use Rattle.parser.specs.Feed.{put, feedOf}
 use Rattle.parser.specs.Engine.{answerOf, engine}
 use Rattle.scan.specs.declared.Scan.{Scan}
 use Rattle.scan.specs.declared.Stats.{Stats}
 use Rattle.parser.specs.declared.Parser.{Parser}
 use Rattle.parser.specs.declared.Fed.{Fed}
-use Rattle.parser.specs.declared.Moved.{Moved}
+use Rattle.feeding.specs.declared.Moved.{Moved}
 use Rattle.scan.specs.declared.Ended.{Ended}
 use Rattle.scan.specs.declared.Ended.the-variants.{Frame, Nothing}
 use Rattle.step.proofs.Follow.{endedAs}

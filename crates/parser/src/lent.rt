@@ -2,9 +2,9 @@
 use super::Fed;
 use super::FedSlice;
 use super::Parser;
-use super::Taken;
-use super::feed_at;
-use super::feed_slice_at;
+use feeding::Taken;
+use feeding::feed_at;
+use feeding::feed_slice_at;
 use frame::Frame;
 use scan::Scan;
 ghost use mathlib.Core.Path.{_≡_};

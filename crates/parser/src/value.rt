@@ -2,9 +2,9 @@
 use super::Fed;
 use super::FedSlice;
 use super::Parser;
-use super::Taken;
-use super::emit;
-use super::tally;
+use feeding::Taken;
+use feeding::emit;
+use feeding::tally;
 use frame::Frame;
 use scan::Ended;
 use scan::Scan;

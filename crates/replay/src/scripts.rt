@@ -9,7 +9,7 @@ use ack::Span;
 use frame::Frame;
 use parser::FedSlice;
 use parser::Parser;
-use parser::Taken;
+use feeding::Taken;
 use parser::feed_lent;
 use parser::feed_slice_lent;
 use parser::reset_lent;

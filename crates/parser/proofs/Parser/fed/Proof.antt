@@ -1,7 +1,8 @@
 -- `parser::Parser::fed` meets its contract: what the step ended is emitted. Assumes nothing.
 use borrow.Author.Needs.{needs}
-use Rattle.parser.specs.Feed.{movedOf, bufOf, feedOf}
-use Rattle.parser.proofs.Endings.{emits-frame, emits-none}
+use Rattle.feeding.specs.Moved.{movedOf, bufOf}
+use Rattle.parser.specs.Feed.{feedOf}
+use Rattle.feeding.proofs.Endings.{emits-frame, emits-none}
 use Rattle.parser.proofs.Parser.fed.Statement.{statement}
 use Rattle.parser.proofs.Parser.fed.Tie as tie
 

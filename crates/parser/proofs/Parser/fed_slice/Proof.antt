@@ -1,7 +1,8 @@
 -- `parser::Parser::fed_slice` meets its contract: what the run ended is emitted. Assumes nothing.
 use borrow.Author.Needs.{needs}
-use Rattle.parser.specs.Feed.{sliceMovedOf, sliceBufOf, feedSliceOf}
-use Rattle.parser.proofs.Endings.{emits-frame, emits-none}
+use Rattle.feeding.specs.Moved.{sliceMovedOf, sliceBufOf}
+use Rattle.parser.specs.Feed.{feedSliceOf}
+use Rattle.feeding.proofs.Endings.{emits-frame, emits-none}
 use Rattle.parser.proofs.Parser.fed_slice.Statement.{statement}
 use Rattle.parser.proofs.Parser.fed_slice.Tie as tie
 

@@ -1,11 +1,12 @@
 -- `parser::Parser::feed` meets its contract: LentFeed.antt walks it, over what `feed_at` promises. Assumes nothing.
 use Rattle.stream.specs.Link.{linkMost}
-use Rattle.parser.specs.Feed.{movedOf, bufOf, feedOf}
+use Rattle.feeding.specs.Moved.{movedOf, bufOf}
+use Rattle.parser.specs.Feed.{feedOf}
 use Rattle.parser.proofs.Extra.{byte}
 use Rattle.parser.proofs.Answers.{frame-told, frame-moved}
 use Rattle.parser.proofs.LentFeed.{lent-feed}
-use Rattle.parser.proofs.feed_at.Symbol as g
-use Rattle.parser.proofs.feed_at.Met as g-thm
+use Rattle.feeding.proofs.feed_at.Symbol as g
+use Rattle.feeding.proofs.feed_at.Met as g-thm
 use Rattle.parser.proofs.Parser.feed.Key as key
 use Rattle.parser.proofs.Parser.feed.Statement as stated
 use Rattle.parser.proofs.Parser.feed.Code as code
@@ -15,4 +16,4 @@ unfolding code.routine feedOf
 feed-spec 𝓤 H 𝓜 𝓖 𝓡 =
     lent-feed byte frame-told frame-moved (λ s t xs b. movedOf linkMost s t xs b) (λ s t xs b. bufOf linkMost s xs b)
     𝓤 H 𝓜 𝓖 𝓡 code.env key.name g.name (code.unfolded 𝓤 H 𝓜 𝓡)
-    g.routine code.calls-parser·feed-at (g-thm.met 𝓤 H 𝓜 𝓖 𝓡)
+    g.routine code.calls-feeding·feed-at (g-thm.met 𝓤 H 𝓜 𝓖 𝓡)

@@ -1,12 +1,13 @@
 -- `parser::Parser::feed_slice` meets its contract: LentFeed.antt walks it, over what `feed_slice_at` promises.
 -- Assumes nothing.
 use Rattle.stream.specs.Link.{linkMost}
-use Rattle.parser.specs.Feed.{sliceMovedOf, sliceBufOf, feedSliceOf}
+use Rattle.feeding.specs.Moved.{sliceMovedOf, sliceBufOf}
+use Rattle.parser.specs.Feed.{feedSliceOf}
 use Rattle.parser.proofs.Extra.{bytes}
 use Rattle.parser.proofs.Answers.{taken-told, taken-moved}
 use Rattle.parser.proofs.LentFeed.{lent-feed}
-use Rattle.parser.proofs.feed_slice_at.Symbol as g
-use Rattle.parser.proofs.feed_slice_at.Met as g-thm
+use Rattle.feeding.proofs.feed_slice_at.Symbol as g
+use Rattle.feeding.proofs.feed_slice_at.Met as g-thm
 use Rattle.parser.proofs.Parser.feed_slice.Key as key
 use Rattle.parser.proofs.Parser.feed_slice.Statement as stated
 use Rattle.parser.proofs.Parser.feed_slice.Code as code
@@ -16,4 +17,4 @@ unfolding code.routine feedSliceOf
 feed-slice-spec 𝓤 H 𝓜 𝓖 𝓡 =
     lent-feed bytes taken-told taken-moved (sliceMovedOf linkMost) (sliceBufOf linkMost)
     𝓤 H 𝓜 𝓖 𝓡 code.env key.name g.name (code.unfolded 𝓤 H 𝓜 𝓡)
-    g.routine code.calls-parser·feed-slice-at (g-thm.met 𝓤 H 𝓜 𝓖 𝓡)
+    g.routine code.calls-feeding·feed-slice-at (g-thm.met 𝓤 H 𝓜 𝓖 𝓡)

@@ -1,4 +1,4 @@
--- `parser::emit` meets its contract: as many bytes are decoded as the frame has, or all of the buffer. Assumes nothing.
+-- `feeding::emit` meets its contract: as many bytes are decoded as the frame has, or all of the buffer. Assumes nothing.
 use borrow.Author.Needs.{needs}
 use mathlib.Core.Path.{_≡_, sym, ap, _∙_}
 use native.Mathlib.Omega.{arith}
@@ -7,8 +7,8 @@ use lib.ListN.{take}
 use lib.Seq.{length-take-le}
 use denote.Ref.{now}
 use Rattle.wire.proofs.Prefixes.{take-least}
-use Rattle.parser.proofs.emit.Statement.{statement}
-use Rattle.parser.proofs.emit.Tie as tie
+use Rattle.feeding.proofs.emit.Statement.{statement}
+use Rattle.feeding.proofs.emit.Tie as tie
 
 least-requires : tie.Need-least-requires
 least-requires c κs = search needs

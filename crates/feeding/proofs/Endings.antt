@@ -16,8 +16,8 @@ use Rattle.scan.specs.declared.Scan.{Scan}
 use Rattle.scan.specs.declared.Stats.{Stats}
 use Rattle.scan.specs.declared.Ended.{Ended}
 use Rattle.scan.specs.declared.Ended.the-variants as Is
-use Rattle.parser.specs.Feed.{emitted}
-use Rattle.parser.specs.declared.Moved.{Moved}
+use Rattle.feeding.specs.Moved.{emitted}
+use Rattle.feeding.specs.declared.Moved.{Moved}
 
 -- Data decode exactly if they are read as a frame.
 frame-if : (o : MaybeCheck) (i : ℕ) (k : Kind) (d : List ℕ)
