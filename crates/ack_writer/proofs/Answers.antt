@@ -13,12 +13,12 @@ use Rattle.wire.specs.Family.{framed}
 use Rattle.wire.specs.declared.Kind.the-variants.{Command}
 use Rattle.refusal.specs.declared.Error.the-variants.{Unrepresentable}
 use Rattle.frame.proofs.Framed.{framed-length}
-use Rattle.cursor.specs.Written.{framable, answerOf, bufferAfter, WriteCauses}
-use Rattle.cursor.specs.declared.WriteResult.{WriteResult}
-use Rattle.cursor.specs.declared.WriteResult.the-variants.{Err}
-use Rattle.cursor.proofs.Bytes.{bytes-append, bytes-leBytes, framed-bytes}
-use Rattle.cursor.proofs.Chain.{written-front}
-use Rattle.cursor.proofs.Writers.{Wrote, Shown, wrote-refused, wrote-all, shown, none-good}
+use Rattle.writer.specs.Written.{framable, answerOf, bufferAfter, WriteCauses}
+use Rattle.writer.specs.declared.WriteResult.{WriteResult}
+use Rattle.writer.specs.declared.WriteResult.the-variants.{Err}
+use Rattle.put.proofs.Bytes.{bytes-append, bytes-leBytes, framed-bytes}
+use Rattle.writer.proofs.Chain.{written-front}
+use Rattle.writer.proofs.Writers.{Wrote, Shown, wrote-refused, wrote-all, shown, none-good}
 use Rattle.ack_writer.specs.Frame.{ackData, ackFrame, writable, unrepresentable}
 use Rattle.ack_writer.specs.Read.{ReadBack, Unread, Exact, WrittenAgain}
 use Rattle.ack_writer.proofs.Filling.{data-length}

@@ -5,9 +5,9 @@ use Prim.Native.Nat.{ℕ, _+_, _≤_}
 use native.Mathlib.Omega.{arith}
 use lib.ListN.{length, take, replicate}
 use Rattle.wire.specs.Number.{leBytes}
-use Rattle.cursor.specs.Put.{putIn}
-use Rattle.cursor.specs.Written.{written}
-use Rattle.cursor.proofs.Chain.{written-nil, written-front, put-extends}
+use Rattle.put.specs.Put.{putIn}
+use Rattle.writer.specs.Written.{written}
+use Rattle.writer.proofs.Chain.{written-nil, written-front, put-extends}
 use Rattle.ack_writer.specs.Frame.{ackData}
 
 pub data-length : (w s : ℕ) (p : List ℕ) → length (ackData w s p) ≡ 4 + length p

@@ -29,7 +29,7 @@ use Rattle.frame.specs.declared.Frame.{Frame}
 use Rattle.frame.proofs.Bodies.{ack-passes}
 use Rattle.frame.proofs.Framed.{framed-data, framed-length, checked-framed}
 use Rattle.wire.specs.Bytes.{Bytes}
-use Rattle.cursor.proofs.Framing.{checked-cut, cut-framed}
+use Rattle.writer.proofs.Framing.{checked-cut, cut-framed}
 use Rattle.ack_writer.specs.Read.{acknowledged}
 
 -- The string f is the frame of the command family with the data d, these pass A1 and A2, and are read as a.

@@ -18,7 +18,7 @@ use Rattle.ack.specs.Awaited.{payloadIn}
 use Rattle.ack.specs.declared.Ack.{Ack}
 use Rattle.frame.specs.Frame.{announced, dataOf, startingAt}
 use Rattle.frame.proofs.Framed.{framed-length}
-use Rattle.cursor.proofs.Bytes.{bytes-take, bytes-drop, leBytes-little}
+use Rattle.put.proofs.Bytes.{bytes-take, bytes-drop, leBytes-little}
 use Rattle.ack_writer.specs.Frame.{ackData, ackFrame, writable}
 use Rattle.ack_writer.specs.Read.{acknowledged, ackWith, Reads, WrittenAgain}
 use Rattle.ack_writer.proofs.Filling.{data-length}

@@ -15,7 +15,7 @@ use Rattle.wire.specs.Family.{framed}
 use Rattle.wire.specs.declared.Kind.the-variants as Family
 use Rattle.refusal.specs.declared.Error.{Error}
 use Rattle.refusal.specs.declared.Error.the-variants.{Unrepresentable}
-use Rattle.cursor.specs.Written.{unless}
+use Rattle.writer.specs.Written.{unless}
 
 -- "bit 0100 of the word set": it is clear in a word that may be written, so it is added
 unfoldable pub ackData : ℕ → ℕ → List ℕ → List ℕ

@@ -22,9 +22,9 @@ use Rattle.ack.specs.declared.Ack.{Ack}
 use Rattle.frame.specs.Frame.{parsedFrame}
 use Rattle.frame.specs.declared.FrameKind.the-variants as Is
 use Rattle.frame.specs.declared.FrameResult.{FrameResult}
-use Rattle.cursor.specs.Written.{numberOfWrite}
-use Rattle.cursor.specs.declared.WriteResult.{WriteResult}
-use Rattle.cursor.specs.declared.WriteResult.the-variants as Write
+use Rattle.writer.specs.Written.{numberOfWrite}
+use Rattle.writer.specs.declared.WriteResult.{WriteResult}
+use Rattle.writer.specs.declared.WriteResult.the-variants as Write
 use Rattle.ack_writer.specs.Frame.{ackFrame, writable}
 
 abbrev pub acknowledged : Ack → FrameResult

@@ -1,10 +1,10 @@
 // The writer of acknowledgement frames, as the module sends them.
 //
 // It writes each value that the reader of frames can give, with a payload of at most 50 bytes, and refuses every other.
-use cursor::WriteResult;
-use cursor::put;
-use cursor::put_frame;
-use cursor::put_u16;
+use writer::WriteResult;
+use put::put;
+use writer::put_frame;
+use put::put_u16;
 use refusal::Error;
 use wire::ACK_BIT;
 use wire::Kind;
@@ -12,7 +12,7 @@ use wire::MAX_DATA;
 ghost use mathlib.Core.Path.{_≡_};
 ghost use mathlib.Core.Bool.{false};
 ghost use lib.ListN.{length};
-ghost use Rattle.cursor.specs.Written.{answerOf, bufferAfter, WriteCauses};
+ghost use Rattle.writer.specs.Written.{answerOf, bufferAfter, WriteCauses};
 ghost use Rattle.ack_writer.specs.Frame.{ackFrame, writable, unrepresentable};
 ghost use Rattle.ack_writer.specs.Read.{ReadBack, Exact, WrittenAgain};
 

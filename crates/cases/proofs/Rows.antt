@@ -27,7 +27,7 @@ use Rattle.step.specs.Slice.{runOf}
 use Rattle.parser.specs.Feed.{fresh, feedOf, feedSliceOf, unfinishedOf}
 use Rattle.feeding.specs.Moved.{bufOf, movedOf, sliceBufOf, sliceMovedOf}
 use Rattle.parser.specs.Claims.{did, left}
-use Rattle.cursor.specs.Written.{answerOf, bufferAfter, written}
+use Rattle.writer.specs.Written.{answerOf, bufferAfter, written}
 use Rattle.command.specs.Command.{commandFrame, unsupported}
 use Rattle.request.specs.Request.{dataWith}
 use Rattle.command.specs.Read.{commandOf, guess, guessIn, ifEncodesTo}

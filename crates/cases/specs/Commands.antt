@@ -9,7 +9,7 @@ use mathlib.Core.List.{List, [], _∷_, _++_}
 use Prim.Native.Nat.{ℕ}
 use lib.ListN.{replicate}
 use Rattle.refusal.specs.declared.Error.the-variants.{Unsupported, BufferTooSmall}
-use Rattle.cursor.specs.declared.WriteResult.the-variants as Write
+use Rattle.writer.specs.declared.WriteResult.the-variants as Write
 use Rattle.setting.specs.declared.Gate.the-variants.{Index}
 use Rattle.command.specs.declared.Command.{Command}
 use Rattle.command.specs.declared.Command.the-variants.{EnableConfig, EndConfig, SetSensitivity}

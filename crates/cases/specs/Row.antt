@@ -23,8 +23,8 @@ use Rattle.stream.specs.Decoding.{counting}
 use Rattle.parser.specs.Feed.{fresh, unfinishedOf}
 use Rattle.parser.specs.Claims.{did, left}
 use Rattle.parser.specs.declared.Parser.{Parser}
-use Rattle.cursor.specs.Written.{answerOf, bufferAfter}
-use Rattle.cursor.specs.declared.WriteResult.{WriteResult}
+use Rattle.writer.specs.Written.{answerOf, bufferAfter}
+use Rattle.writer.specs.declared.WriteResult.{WriteResult}
 use Rattle.command.specs.Command.{commandFrame, unsupported}
 use Rattle.command.specs.Read.{commandOf}
 use Rattle.command.specs.declared.Command.{Command}

@@ -7,9 +7,9 @@ use Prim.Native.Nat.{ℕ}
 use native.Mathlib.Omega.{arith}
 use lib.ListN.{length, take}
 use Rattle.refusal.specs.declared.Error.the-variants.{InvalidFormat, UnknownCommand}
-use Rattle.cursor.specs.Written.{written}
-use Rattle.cursor.specs.declared.WriteResult.{WriteResult}
-use Rattle.cursor.proofs.Writers.{Wrote, wrote-whole}
+use Rattle.writer.specs.Written.{written}
+use Rattle.writer.specs.declared.WriteResult.{WriteResult}
+use Rattle.writer.proofs.Writers.{Wrote, wrote-whole}
 use Rattle.command.specs.Command.{commandFrame, unsupported}
 use Rattle.command.specs.Read.{Reads, commandOf, ReadCauses, ReadBack, WrittenAgain}
 use Rattle.request.specs.Asking.{Asks, asks}

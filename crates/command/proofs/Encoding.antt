@@ -7,10 +7,10 @@ use Prim.Native.Nat.{ℕ}
 use lib.ListN.{length}
 use native.Mathlib.Omega.{arith}
 use Rattle.refusal.specs.declared.Error.the-variants.{Unsupported}
-use Rattle.cursor.specs.Written.{answerOf, bufferAfter, WriteCauses}
-use Rattle.cursor.specs.declared.WriteResult.{WriteResult}
-use Rattle.cursor.specs.declared.WriteResult.the-variants.{Err}
-use Rattle.cursor.proofs.Writers.{Wrote, wrote-refused, shown}
+use Rattle.writer.specs.Written.{answerOf, bufferAfter, WriteCauses}
+use Rattle.writer.specs.declared.WriteResult.{WriteResult}
+use Rattle.writer.specs.declared.WriteResult.the-variants.{Err}
+use Rattle.writer.proofs.Writers.{Wrote, wrote-refused, shown}
 use Rattle.command.specs.Command.{wordOf, valueOf, commandFrame, encodable, unsupported}
 use Rattle.request.specs.Request.{frameWith}
 use Rattle.command.specs.Read.{ReadBack}

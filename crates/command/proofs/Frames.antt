@@ -6,7 +6,7 @@ use native.Mathlib.Omega.{arith}
 use lib.ListN.{length}
 use borrow.Author.Tests.{le-leb}
 use Rattle.wire.specs.declared.Kind.the-variants as Family
-use Rattle.cursor.proofs.Frames.{frame-length}
+use Rattle.writer.proofs.Frames.{frame-length}
 use Rattle.setting.specs.Setting.{farthest}
 use Rattle.request.specs.Request.{valueBytes, dataWith}
 use Rattle.request.proofs.Makers.{value-short}

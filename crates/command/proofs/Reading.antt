@@ -8,11 +8,11 @@ use lib.ListN.{length, take}
 use Rattle.wire.specs.Equal.{sameBytes}
 use Rattle.refusal.specs.declared.Error.{Error}
 use Rattle.refusal.specs.declared.Error.the-variants.{Unsupported, UnknownCommand, InvalidFormat}
-use Rattle.cursor.specs.Written.{written}
-use Rattle.cursor.specs.declared.WriteResult.{WriteResult}
-use Rattle.cursor.specs.declared.WriteResult.the-variants as Write
-use Rattle.cursor.proofs.Chain.{written-front, written-length}
-use Rattle.cursor.proofs.Writers.{Wrote, wrote-whole, wrote-all, none-good}
+use Rattle.writer.specs.Written.{written}
+use Rattle.writer.specs.declared.WriteResult.{WriteResult}
+use Rattle.writer.specs.declared.WriteResult.the-variants as Write
+use Rattle.writer.proofs.Chain.{written-front, written-length}
+use Rattle.writer.proofs.Writers.{Wrote, wrote-whole, wrote-all, none-good}
 use Rattle.command.specs.Command.{commandFrame, encodable, unsupported}
 use Rattle.request.specs.Asking.{asks}
 use Rattle.command.specs.Read.{guessIn, ifEncodesTo, commandOf}

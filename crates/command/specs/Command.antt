@@ -11,7 +11,7 @@ use Prim.Native.Nat.{ℕ}
 use lib.Dec.{leb}
 use Rattle.refusal.specs.declared.Error.{Error}
 use Rattle.refusal.specs.declared.Error.the-variants.{Unsupported}
-use Rattle.cursor.specs.Written.{unless}
+use Rattle.writer.specs.Written.{unless}
 use Rattle.setting.specs.Setting.{gateValue, gateKnown, farthest, sensitivity, indexOf}
 use Rattle.request.specs.Request.{frameWith}
 use Rattle.request.specs.declared.Value.{Value}

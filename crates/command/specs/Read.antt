@@ -20,9 +20,9 @@ use lib.ListN.{length, take}
 use Rattle.wire.specs.Equal.{sameBytes}
 use Rattle.refusal.specs.Refusal.{numberOf}
 use Rattle.refusal.specs.declared.Error.the-variants.{InvalidFormat, UnknownCommand}
-use Rattle.cursor.specs.Written.{written, answerOf, bufferAfter}
-use Rattle.cursor.specs.declared.WriteResult.{WriteResult}
-use Rattle.cursor.specs.declared.WriteResult.the-variants as Write
+use Rattle.writer.specs.Written.{written, answerOf, bufferAfter}
+use Rattle.writer.specs.declared.WriteResult.{WriteResult}
+use Rattle.writer.specs.declared.WriteResult.the-variants as Write
 use Rattle.setting.specs.Setting.{baudOf}
 use Rattle.request.specs.Asking.{Asks, numberIn, asks}
 use Rattle.command.specs.Command.{commandFrame, encodable, unsupported}

@@ -2,7 +2,7 @@
 //
 // What the module takes is said once, in `Command::encodable`: the encoder refuses any other value, and the reader
 // knows no other frame.
-use cursor::WriteResult;
+use writer::WriteResult;
 use refusal::Error;
 use request::Value;
 use request::asks;
@@ -20,7 +20,7 @@ mod reader;
 ghost use mathlib.Core.Path.{_≡_};
 ghost use mathlib.Core.Bool.{false};
 ghost use lib.ListN.{length};
-ghost use Rattle.cursor.specs.Written.{answerOf, bufferAfter, WriteCauses};
+ghost use Rattle.writer.specs.Written.{answerOf, bufferAfter, WriteCauses};
 ghost use Rattle.command.specs.Read.{commandOf, ifEncodesTo, ReadCauses, ReadBack, WrittenAgain};
 ghost use Rattle.command.specs.Command.{wordOf, valueOf, commandFrame, encodable, unsupported};
 

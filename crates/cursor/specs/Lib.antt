@@ -1,2 +1,2 @@
-pub mod Put
-pub mod Written
+pub mod Held
+pub mod Parts

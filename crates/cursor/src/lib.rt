@@ -1,127 +1,100 @@
-// Bounded writes into the caller's buffer: bytes, numbers and whole frames, each put as a whole or not at all.
+// A writer that holds the caller's slice: bytes, numbers and records put one behind the other, each as a whole or not
+// at all.
 //
-// Every function is total: a place past the end, or too little room, is a variant of its answer, and changes no byte.
+// Every method is total: where there is too little room it refuses with 4 and the bytes needed in all, and neither the
+// slice nor the position changes.
+use put::Placed;
+use writer::WriteResult;
+use put::put;
+use put::put_record;
+use put::put_u16;
+use put::put_u32;
 use refusal::Error;
-use wire::FRAMING;
-use wire::Kind;
 ghost use mathlib.Core.Path.{_≡_};
 ghost use mathlib.Core.List.{_++_};
-ghost use mathlib.Core.Bool.{false};
-ghost use lib.ListN.{length};
 ghost use Rattle.wire.specs.Number.{leBytes};
-ghost use Rattle.wire.specs.Family.{framed};
-ghost use Rattle.cursor.specs.Put.{placed, putIn};
-ghost use Rattle.cursor.specs.Written.{answerOf, bufferAfter, frameRefusal, framable, WriteCauses};
+ghost use Rattle.cursor.specs.Held.{nextAt, toldBy, told, moved};
 
-// Most data bytes that a frame's length can say.
-pub const MAX_LENGTH: usize = 65_535;
-
-// Where a put ended: the place behind the bytes, or that they do not fit from its place on.
-pub enum Placed {
-    End(usize),
-    TooSmall,
+// The caller's slice, the position of the next byte in it, and the bytes needed in all, which a refusal tells.
+pub struct Cursor<'a> {
+    pub out: &'a mut [u8],
+    pub pos: usize,
+    pub needed: usize,
 }
 
-// What a writer answers: the bytes written, or the refusal.
-pub enum WriteResult {
-    Ok(usize),
-    Err(Error),
-}
-
-// The two bytes of a number, the least first.
-pub fn u16_bytes(v: u16) -> [u8; 2]
-    ensures little { λ r. ⌜ r ≡ leBytes 2 v ⌝ }
-{
-    let low = (v % 256) as u8;
-    let high = (v / 256 % 256) as u8;
-    [low, high]
-}
-
-// The four bytes of a number, the least first.
-pub fn u32_bytes(v: u32) -> [u8; 4]
-    ensures little { λ r. ⌜ r ≡ leBytes 4 v ⌝ }
-{
-    [
-        (v % 256) as u8,
-        (v / 256 % 256) as u8,
-        (v / 256 / 256 % 256) as u8,
-        (v / 256 / 256 / 256 % 256) as u8,
-    ]
-}
-
-// Puts the bytes at place `at`. Where they do not all fit, no byte changes.
-pub fn put(out: &mut [u8], at: usize, bytes: &[u8]) -> Placed
-    ensures told { λ r. ⌜ r ≡ placed (now (out .entry)) at (now (bytes .entry)) ⌝ }
-    ensures left { λ _. ⌜ now (out .exit) ≡ putIn (now (out .entry)) at (now (bytes .entry)) ⌝ }
-{
-    if out.len() < at {
-        return Placed::TooSmall;
+impl<'a> Cursor<'a> {
+    // A cursor at the front of the slice.
+    pub fn new(out: &'a mut [u8], needed: usize) -> Cursor<'a>
+        ensures made { λ r. ⌜ (r .out ≡ out .entry) × (r .pos ≡ 0) × (r .needed ≡ needed) ⌝ }
+    {
+        Cursor {
+            out: out,
+            pos: 0,
+            needed: needed,
+        }
     }
-    let room = out.len() - at;
-    if room < bytes.len() {
-        return Placed::TooSmall;
+
+    // Puts the bytes.
+    pub fn put(&mut self, bytes: &[u8]) -> WriteResult
+        ensures told { λ r. ⌜ r ≡ told (now (self .entry)) (now (bytes .entry)) ⌝ }
+        ensures left { λ _. ⌜ now (self .exit) ≡ moved (now (self .entry)) (now (bytes .entry)) ⌝ }
+    {
+        let at = self.pos;
+        let p = put(&mut *self.out, at, bytes);
+        self.pos = after(at, p);
+        tell(self.needed, p)
     }
-    let mut i = 0;
-    while i < bytes.len() {
-        out[at + i] = bytes[i];
-        i += 1;
+
+    // Puts a two-byte number.
+    pub fn u16(&mut self, v: u16) -> WriteResult
+        ensures told { λ r. ⌜ r ≡ told (now (self .entry)) (leBytes 2 v) ⌝ }
+        ensures left { λ _. ⌜ now (self .exit) ≡ moved (now (self .entry)) (leBytes 2 v) ⌝ }
+    {
+        let at = self.pos;
+        let p = put_u16(&mut *self.out, at, v);
+        self.pos = after(at, p);
+        tell(self.needed, p)
     }
-    let end = at + i;
-    Placed::End(end)
+
+    // Puts a four-byte number.
+    pub fn u32(&mut self, v: u32) -> WriteResult
+        ensures told { λ r. ⌜ r ≡ told (now (self .entry)) (leBytes 4 v) ⌝ }
+        ensures left { λ _. ⌜ now (self .exit) ≡ moved (now (self .entry)) (leBytes 4 v) ⌝ }
+    {
+        let at = self.pos;
+        let p = put_u32(&mut *self.out, at, v);
+        self.pos = after(at, p);
+        tell(self.needed, p)
+    }
+
+    // Puts a record: a parameter's number in two bytes, its value in four.
+    pub fn record(&mut self, param: u16, value: u32) -> WriteResult
+        ensures told { λ r. ⌜ r ≡ told (now (self .entry)) (leBytes 2 param ++ leBytes 4 value) ⌝ }
+        ensures left { λ _. ⌜ now (self .exit) ≡ moved (now (self .entry)) (leBytes 2 param ++ leBytes 4 value) ⌝ }
+    {
+        let at = self.pos;
+        let p = put_record(&mut *self.out, at, param, value);
+        self.pos = after(at, p);
+        tell(self.needed, p)
+    }
 }
 
-// Puts a two-byte number.
-pub fn put_u16(out: &mut [u8], at: usize, v: u16) -> Placed
-    ensures told { λ r. ⌜ r ≡ placed (now (out .entry)) at (leBytes 2 v) ⌝ }
-    ensures left { λ _. ⌜ now (out .exit) ≡ putIn (now (out .entry)) at (leBytes 2 v) ⌝ }
+// The position after a put at `at` that answered `p`.
+fn after(at: usize, p: Placed) -> usize
+    ensures next { λ r. ⌜ r ≡ nextAt at p ⌝ }
 {
-    let bytes = u16_bytes(v);
-    put(out, at, &bytes)
-}
-
-// Puts a four-byte number.
-pub fn put_u32(out: &mut [u8], at: usize, v: u32) -> Placed
-    ensures told { λ r. ⌜ r ≡ placed (now (out .entry)) at (leBytes 4 v) ⌝ }
-    ensures left { λ _. ⌜ now (out .exit) ≡ putIn (now (out .entry)) at (leBytes 4 v) ⌝ }
-{
-    let bytes = u32_bytes(v);
-    put(out, at, &bytes)
-}
-
-// Puts a record: a parameter's number in two bytes, its value in four.
-pub fn put_record(out: &mut [u8], at: usize, param: u16, value: u32) -> Placed
-    ensures told { λ r. ⌜ r ≡ placed (now (out .entry)) at (leBytes 2 param ++ leBytes 4 value) ⌝ }
-    ensures left { λ _. ⌜ now (out .exit) ≡ putIn (now (out .entry)) at (leBytes 2 param ++ leBytes 4 value) ⌝ }
-{
-    let p = u16_bytes(param);
-    let v = u32_bytes(value);
-    let bytes = [p[0], p[1], v[0], v[1], v[2], v[3]];
-    put(out, at, &bytes)
-}
-
-// Puts the frame of a family with the data at the front: header, length, data, tail. Refuses with 6 data that no length
-// can say, then with 4 a buffer shorter than the frame. Bytes behind the frame stay.
-pub fn put_frame(out: &mut [u8], kind: Kind, data: &[u8]) -> WriteResult
-    ensures told { λ r. ⌜ r ≡ answerOf (frameRefusal (now («data» .entry))) (framed kind (now («data» .entry)))
-        (length (now (out .entry))) ⌝ }
-    ensures left { λ _. ⌜ now (out .exit) ≡ bufferAfter (frameRefusal (now («data» .entry)))
-        (framed kind (now («data» .entry))) (now (out .entry)) ⌝ }
-    ensures causes { λ r. ⌜ WriteCauses 6 (framable (now («data» .entry)) ≡ false) (framed kind (now («data» .entry)))
-        (length (now (out .entry))) r ⌝ }
-{
-    if MAX_LENGTH < data.len() {
-        return WriteResult::Err(Error::Unrepresentable);
+    match p {
+        Placed::End(end) => end,
+        Placed::TooSmall => at,
     }
-    let needed = FRAMING + data.len();
-    if out.len() < needed {
-        return WriteResult::Err(Error::BufferTooSmall { needed });
+}
+
+// What a put that answered `p` tells, where `needed` bytes are needed in all.
+fn tell(needed: usize, p: Placed) -> WriteResult
+    ensures told { λ r. ⌜ r ≡ toldBy needed p ⌝ }
+{
+    match p {
+        Placed::End(end) => WriteResult::Ok(end),
+        Placed::TooSmall => WriteResult::Err(Error::BufferTooSmall { needed }),
     }
-    // There is room for the whole frame, so each put below finds its place.
-    let header = kind.header();
-    put(out, 0, &header);
-    put_u16(out, 4, data.len() as u16);
-    put(out, 6, data);
-    let tail = kind.tail();
-    put(out, 6 + data.len(), &tail);
-    WriteResult::Ok(needed)
 }

@@ -5,7 +5,7 @@ use crate::text::end;
 use crate::text::numbers;
 use crate::text::text;
 use command::Command;
-use cursor::WriteResult;
+use writer::WriteResult;
 
 // The command, written into a buffer that takes the longest frame.
 pub fn sent(label: &[u8], command: Command) {

@@ -1,7 +1,7 @@
 -- The contract of a maker, for any row of values and any parts put:
 --     fn(out: &mut [u8], needed: usize, header: &[u8], tail: &[u8], ..) -> usize
 -- It leaves the parts put into the slice from its front, and answers the place behind them.
---   X, Parts         the row of the values (Param.antt of `out_cursor`), and the parts put for them
+--   X, Parts         the row of the values (Param.antt of `cursor`), and the parts put for them
 --   ended, clauses   the contract, as the functions' own have it
 --   Begin, End       what a maker has at its beginning and at its end
 --   exits            what it has at its end is what its contract asks
@@ -32,10 +32,10 @@ use denote.Triple.Clauses.{Ended, Clauses}
 use denote.Triple.Walked.{Stays, stay-slice, stay-dropped, hasOf, walkOf, ends-at}
 use denote.Exit.{yes}
 use denote.Signature.{plain, typesAt}
-use Rattle.out_cursor.specs.Parts.{putAll, endAll}
-use Rattle.out_cursor.proofs.Param.{Params}
-use Rattle.out_cursor.proofs.Parts.{parts-length}
-use Rattle.out_cursor.proofs.Steps.{says-both}
+use Rattle.cursor.specs.Parts.{putAll, endAll}
+use Rattle.cursor.proofs.Param.{Params}
+use Rattle.cursor.proofs.Parts.{parts-length}
+use Rattle.cursor.proofs.Steps.{says-both}
 
 module _ (X : Params 3) (Parts : (κs : Lfts 3) → List ℕ → List ℕ → Denots (typesAt (X .slots) κs) → List (List ℕ)) where
   abbrev pub ended : Ended

@@ -33,8 +33,8 @@ use denote.Triple.Walked.{walk-meets}
 use denote.Exit.{yes}
 use denote.Signature.{plain, typesAt}
 use Rattle.wire.specs.Number.{leBytes}
-use Rattle.out_cursor.proofs.Param.{Params, single, double, number, numbers, bytes}
-use Rattle.out_cursor.proofs.Contracts.{Method}
+use Rattle.cursor.proofs.Param.{Params, single, double, number, numbers, bytes}
+use Rattle.cursor.proofs.Contracts.{Method}
 use Rattle.maker.proofs.Made.{ended, stayed, clauses, vals, Begin, Post}
 
 module _ {M : Type 1} (𝓤 : URA M) (H : Heap 𝓤) (A : Atoms 𝓤) where

@@ -8,12 +8,12 @@ use lib.ListN.{length}
 use Rattle.wire.specs.Family.{header, tail, framed}
 use Rattle.wire.specs.declared.Kind.the-variants.{Command}
 use Rattle.refusal.specs.declared.Error.the-variants.{BufferTooSmall}
-use Rattle.cursor.specs.declared.WriteResult.the-variants.{Ok, Err}
-use Rattle.cursor.specs.Written.{written}
-use Rattle.cursor.proofs.Writers.{Wrote, wrote-short, wrote-whole}
-use Rattle.cursor.proofs.Frames.{frame-length}
-use Rattle.out_cursor.specs.Parts.{putAll, endAll, joined}
-use Rattle.out_cursor.proofs.Parts.{parts-written}
+use Rattle.writer.specs.declared.WriteResult.the-variants.{Ok, Err}
+use Rattle.writer.specs.Written.{written}
+use Rattle.writer.proofs.Writers.{Wrote, wrote-short, wrote-whole}
+use Rattle.writer.proofs.Frames.{frame-length}
+use Rattle.cursor.specs.Parts.{putAll, endAll, joined}
+use Rattle.cursor.proofs.Parts.{parts-written}
 use Rattle.maker.specs.Request.{dataOf, request, parts}
 
 joined-append : (vs ws : List (List ℕ)) → joined (vs ++ ws) ≡ joined vs ++ joined ws

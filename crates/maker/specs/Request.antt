@@ -8,7 +8,7 @@ use lib.ListN.{length}
 use Rattle.wire.specs.Number.{leBytes}
 use Rattle.wire.specs.Family.{framed}
 use Rattle.wire.specs.declared.Kind.the-variants.{Command}
-use Rattle.out_cursor.specs.Parts.{joined}
+use Rattle.cursor.specs.Parts.{joined}
 
 abbrev pub recordBytes : ℕ → ℕ → List ℕ
 recordBytes k v = leBytes 2 k ++ leBytes 4 v

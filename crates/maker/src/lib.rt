@@ -2,8 +2,8 @@
 //
 // One function measures, and a straight maker writes: it is called where there is room for the whole frame, so that no
 // put is refused.
-use cursor::WriteResult;
-use out_cursor::Cursor;
+use writer::WriteResult;
+use cursor::Cursor;
 use refusal::Error;
 use wire::FRAMING;
 use wire::Kind;
@@ -12,8 +12,8 @@ ghost use mathlib.Core.List.{[], _∷_};
 ghost use mathlib.Core.Option.{none};
 ghost use lib.ListN.{length};
 ghost use Rattle.wire.specs.Number.{leBytes};
-ghost use Rattle.cursor.specs.Written.{answerOf, bufferAfter};
-ghost use Rattle.out_cursor.specs.Parts.{putAll, endAll};
+ghost use Rattle.writer.specs.Written.{answerOf, bufferAfter};
+ghost use Rattle.cursor.specs.Parts.{putAll, endAll};
 ghost use Rattle.maker.specs.Request.{recordBytes, request, parts};
 
 // Writes the frame of a command without a value. Refuses with 4 a buffer shorter than the frame, here and below.

@@ -7,7 +7,7 @@ use lib.ListN.{length, getD, drop}
 use Rattle.wire.specs.Family.{framed}
 use Rattle.wire.specs.declared.Kind.the-variants as Family
 use Rattle.wire.specs.Bytes.{Bytes}
-use Rattle.cursor.proofs.Bytes.{bytes-take, bytes-drop}
+use Rattle.put.proofs.Bytes.{bytes-take, bytes-drop}
 use Rattle.target_state.specs.State.{stateOf, byteOf}
 use Rattle.engineering.specs.Block.{engineeringOf}
 use Rattle.report.specs.Report.{dataType, body, block, basicOf, isEngineering, reportBy, reportOf}

@@ -7,10 +7,10 @@ use Prim.Native.Nat.{ℕ, _≤_}
 use native.Mathlib.Omega.{arith}
 use lib.ListN.{length}
 use Rattle.refusal.specs.declared.Error.the-variants.{Unrepresentable}
-use Rattle.cursor.specs.Written.{answerOf, bufferAfter, WriteCauses}
-use Rattle.cursor.specs.declared.WriteResult.{WriteResult}
-use Rattle.cursor.proofs.Chain.{written-front}
-use Rattle.cursor.proofs.Writers.{Wrote, wrote-all, none-good}
+use Rattle.writer.specs.Written.{answerOf, bufferAfter, WriteCauses}
+use Rattle.writer.specs.declared.WriteResult.{WriteResult}
+use Rattle.writer.proofs.Chain.{written-front}
+use Rattle.writer.proofs.Writers.{Wrote, wrote-all, none-good}
 use Rattle.engineering.specs.declared.Engineering.{Engineering}
 use Rattle.report.specs.declared.Report.{Report}
 use Rattle.report_writer.specs.Data.{reportFrame}

@@ -8,7 +8,7 @@ use lib.ListN.{length, getD, take, drop, length-take, length-drop, take-append-d
 use lib.Seq.{drop-cons, drop-drop}
 use Rattle.wire.specs.Number.{little, leBytes}
 use Rattle.wire.specs.Bytes.{Bytes}
-use Rattle.cursor.proofs.Bytes.{bytes-take, bytes-drop, leBytes-little}
+use Rattle.put.proofs.Bytes.{bytes-take, bytes-drop, leBytes-little}
 use Rattle.target_state.specs.State.{stateOf, byteOf}
 use Rattle.report.specs.Report.{basicOf, reportWith}
 use Rattle.engineering.specs.declared.Engineering.{Engineering}

@@ -7,7 +7,7 @@ use native.Mathlib.Omega.{arith}
 use Rattle.wire.specs.Bytes.{Bytes}
 use Rattle.wire.specs.Number.{leBytes}
 use Rattle.wire.specs.declared.Kind.the-variants as Family
-use Rattle.cursor.proofs.Bytes.{bytes-append, bytes-take, bytes-leBytes, framed-bytes}
+use Rattle.put.proofs.Bytes.{bytes-append, bytes-take, bytes-leBytes, framed-bytes}
 use Rattle.target_state.specs.State.{byteOf}
 use Rattle.target_state.specs.declared.TargetState.{TargetState}
 use Rattle.target_state.specs.declared.TargetState.the-variants.{None, Moving, Stationary, Both}

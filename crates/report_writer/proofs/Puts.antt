@@ -6,9 +6,9 @@ use Prim.Native.Nat.{ℕ, _+_, _≤_}
 use native.Mathlib.Omega.{arith}
 use lib.ListN.{length, take, length-append, take-append-drop}
 use lib.Seq.{length-take-le}
-use Rattle.cursor.specs.Put.{putIn}
-use Rattle.cursor.specs.Written.{written}
-use Rattle.cursor.proofs.Chain.{written-nil, put-behind, put-extends}
+use Rattle.put.specs.Put.{putIn}
+use Rattle.writer.specs.Written.{written}
+use Rattle.writer.proofs.Chain.{written-nil, put-behind, put-extends}
 use Rattle.engineering.specs.declared.Engineering.{Engineering}
 use Rattle.report.specs.declared.Report.{Report}
 use Rattle.report_writer.specs.Data.{highestGates, movingEnergies, stationaryEnergies, reservedBytes, blockOf}

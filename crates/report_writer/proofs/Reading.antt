@@ -17,7 +17,7 @@ use Rattle.wire.specs.declared.MaybeKind.the-variants as Found
 use Rattle.refusal.specs.declared.MaybeCheck.{MaybeCheck}
 use Rattle.refusal.specs.declared.MaybeCheck.the-variants as Maybe
 use Rattle.refusal.specs.declared.Outcome.the-variants.{Ok}
-use Rattle.cursor.proofs.Framing.{cut-framed, checked-cut}
+use Rattle.writer.proofs.Framing.{cut-framed, checked-cut}
 use Rattle.report.specs.Check.{reportChecks}
 use Rattle.report.specs.Report.{reportOf}
 use Rattle.report.specs.declared.Report.{Report}

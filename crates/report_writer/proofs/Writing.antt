@@ -9,11 +9,11 @@ use borrow.Author.Tests.{le-leb}
 use Rattle.wire.specs.Family.{framed}
 use Rattle.wire.specs.declared.Kind.the-variants as Family
 use Rattle.refusal.specs.declared.Error.the-variants.{Unrepresentable}
-use Rattle.cursor.specs.Written.{framable, written}
-use Rattle.cursor.specs.declared.WriteResult.{WriteResult}
-use Rattle.cursor.specs.declared.WriteResult.the-variants.{Err}
-use Rattle.cursor.proofs.Chain.{written-front, written-length}
-use Rattle.cursor.proofs.Writers.{Wrote, Shown, wrote-refused, shown}
+use Rattle.writer.specs.Written.{framable, written}
+use Rattle.writer.specs.declared.WriteResult.{WriteResult}
+use Rattle.writer.specs.declared.WriteResult.the-variants.{Err}
+use Rattle.writer.proofs.Chain.{written-front, written-length}
+use Rattle.writer.proofs.Writers.{Wrote, Shown, wrote-refused, shown}
 use Rattle.report.specs.declared.Report.{Report}
 use Rattle.report_writer.specs.Data.{reportData, reportFrame}
 use Rattle.report_writer.specs.Writable.{writable, unrepresentable}

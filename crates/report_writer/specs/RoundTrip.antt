@@ -15,8 +15,8 @@ use Prim.Native.Nat.{ℕ, _≤_}
 use lib.ListN.{take}
 use Rattle.wire.specs.Bytes.{Bytes}
 use Rattle.refusal.specs.declared.Outcome.the-variants as Outcome
-use Rattle.cursor.specs.declared.WriteResult.{WriteResult}
-use Rattle.cursor.specs.declared.WriteResult.the-variants as Write
+use Rattle.writer.specs.declared.WriteResult.{WriteResult}
+use Rattle.writer.specs.declared.WriteResult.the-variants as Write
 use Rattle.target_state.specs.State.{stateOf, byteOf}
 use Rattle.report.specs.Report.{body, basicOf}
 use Rattle.report.specs.declared.Report.{Report}

@@ -13,7 +13,7 @@ use lib.Dec.{leb, eqb}
 use lib.ListN.{drop}
 use Rattle.refusal.specs.declared.Error.{Error}
 use Rattle.refusal.specs.declared.Error.the-variants.{Unrepresentable}
-use Rattle.cursor.specs.Written.{unless}
+use Rattle.writer.specs.Written.{unless}
 use Rattle.engineering.specs.declared.Engineering.{Engineering}
 use Rattle.report.specs.declared.Report.{Report}
 

@@ -1,10 +1,10 @@
 // Writing report frames: every report that the reader gives, with at most eight reserved bytes, has its frame.
 //
 // What the reader cannot give is refused, so that reading what was written gives the report.
-use cursor::WriteResult;
-use cursor::put;
-use cursor::put_frame;
-use cursor::u16_bytes;
+use writer::WriteResult;
+use put::put;
+use writer::put_frame;
+use put::u16_bytes;
 use engineering::Engineering;
 use refusal::Error;
 use report::REPORT_HEAD;
@@ -16,8 +16,8 @@ ghost use mathlib.Core.Logic.{_↔_};
 ghost use mathlib.Core.Bool.{true, false};
 ghost use Prim.Native.Nat.{_+_, _≤_};
 ghost use lib.ListN.{length, take, drop};
-ghost use Rattle.cursor.specs.Put.{putIn};
-ghost use Rattle.cursor.specs.Written.{answerOf, bufferAfter, written, WriteCauses};
+ghost use Rattle.put.specs.Put.{putIn};
+ghost use Rattle.writer.specs.Written.{answerOf, bufferAfter, written, WriteCauses};
 ghost use Rattle.report_writer.specs.Data.{typeOf, frontOf, blockIf, reportData, reportFrame};
 ghost use Rattle.report_writer.specs.Writable.{allZero, counted, within, writableIf, writable, unrepresentable};
 ghost use Rattle.report_writer.specs.RoundTrip.{Readable, ReadBack, WrittenAgain};

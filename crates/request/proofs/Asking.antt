@@ -13,8 +13,8 @@ use Rattle.wire.specs.Family.{tail, framed}
 use Rattle.wire.specs.declared.Kind.the-variants.{Command}
 use Rattle.wire.proofs.Equality.{both-true}
 use Rattle.wire.proofs.Numbers.{le16-there}
-use Rattle.cursor.proofs.Frames.{frame-length}
-use Rattle.cursor.proofs.Framing.{framed-behind}
+use Rattle.writer.proofs.Frames.{frame-length}
+use Rattle.writer.proofs.Framing.{framed-behind}
 use Rattle.request.specs.Asking.{Asks, ackBit, middle, isFrame, orZero, numberIn, asks}
 use Rattle.request.proofs.Framing.{frame-sound, framed-is}
 

@@ -12,9 +12,9 @@ use Rattle.wire.specs.Number.{leBytes}
 use Rattle.wire.specs.Family.{header, tail, framed}
 use Rattle.wire.specs.declared.Kind.the-variants.{Command}
 use Rattle.wire.proofs.Equality.{both-true, same-sound, same-complete}
-use Rattle.cursor.specs.Written.{framable}
-use Rattle.cursor.proofs.Frames.{frame-length}
-use Rattle.cursor.proofs.Framing.{Cut, cut-framed, framed-cut}
+use Rattle.writer.specs.Written.{framable}
+use Rattle.writer.proofs.Frames.{frame-length}
+use Rattle.writer.proofs.Framing.{Cut, cut-framed, framed-cut}
 use Rattle.request.specs.Asking.{middle, isFrame}
 
 -- Strings that the test tells apart are not the same.

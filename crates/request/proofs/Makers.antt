@@ -7,7 +7,7 @@ use native.Mathlib.Omega.{arith}
 use lib.ListN.{length}
 use borrow.Author.Tests.{le-leb}
 use Rattle.wire.specs.Number.{leBytes}
-use Rattle.cursor.specs.Written.{framable}
+use Rattle.writer.specs.Written.{framable}
 use Rattle.request.specs.Request.{valueBytes, dataWith}
 use Rattle.request.specs.declared.Value.{Value}
 use Rattle.request.specs.declared.Value.the-variants as Of

@@ -17,7 +17,7 @@ use Rattle.wire.specs.Family.{framed}
 use Rattle.wire.specs.declared.Kind.the-variants as Family
 use Rattle.wire.specs.declared.MaybeU16.{MaybeU16}
 use Rattle.wire.specs.declared.MaybeU16.the-variants as U16
-use Rattle.cursor.specs.Written.{framable}
+use Rattle.writer.specs.Written.{framable}
 
 abbrev pub ackBit : ℕ → ℕ
 ackBit w = w / 256 % 2

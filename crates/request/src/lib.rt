@@ -1,8 +1,8 @@
 // The frames that commands are sent in: a word and its value, written as a whole; and the test that a frame asks
 // something of the module.
-use cursor::MAX_LENGTH;
-use cursor::WriteResult;
-use cursor::u16_bytes;
+use writer::MAX_LENGTH;
+use writer::WriteResult;
+use put::u16_bytes;
 use maker::put_bare;
 use maker::put_number;
 use maker::put_records;
@@ -15,7 +15,7 @@ use wire::same;
 ghost use mathlib.Core.Path.{_≡_};
 ghost use mathlib.Core.Option.{none};
 ghost use lib.ListN.{length};
-ghost use Rattle.cursor.specs.Written.{answerOf, bufferAfter};
+ghost use Rattle.writer.specs.Written.{answerOf, bufferAfter};
 ghost use Rattle.request.specs.Request.{valueBytes, frameWith};
 ghost use Rattle.request.specs.Asking.{isFrame, numberIn, asks};
 

@@ -5,7 +5,7 @@ use native.Mathlib.Omega.{arith}
 use lib.Seq.{length-take-le}
 use borrow.Author.Needs.{needs}
 use borrow.Author.Tests.{not-true, not-false}
-use Rattle.cursor.proofs.Bytes.{bytes-all}
+use Rattle.put.proofs.Bytes.{bytes-all}
 use Rattle.ack_writer.proofs.Filling.{data-filled}
 use Rattle.ack_writer.proofs.RoundTrip.{writable-sound}
 use Rattle.ack_writer.proofs.Answers.{ack-refused, ack-put}

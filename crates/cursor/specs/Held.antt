@@ -1,0 +1,37 @@
+-- A writer that holds the caller's slice: what a put through it answers, and the cursor that it leaves.
+--   nextAt at p    the place of the next byte after a put at place at that answered p: behind the bytes, or as it was
+--   toldBy n p     the answer to p: the bytes written so far, or 4 with the n bytes that are needed in all
+--   puts c b       how the bytes b are placed by the cursor c: in its slice, at its position
+--   told c b       what c answers to them
+--   moved c b      the cursor left: the same slice, with b put into it, and the next position
+use mathlib.Core.List.{List}
+use Prim.Native.Nat.{ℕ}
+use denote.Ref.{now, at-last}
+use Rattle.refusal.specs.declared.Error.the-variants.{BufferTooSmall}
+use Rattle.put.specs.Put.{placed, putIn}
+use Rattle.put.specs.declared.Placed.{Placed}
+use Rattle.put.specs.declared.Placed.the-variants.{End, TooSmall}
+use Rattle.writer.specs.declared.WriteResult.{WriteResult}
+use Rattle.writer.specs.declared.WriteResult.the-variants.{Ok, Err}
+use Rattle.cursor.specs.declared.Cursor.{Cursor}
+
+abbrev pub nextAt : ℕ → Placed → ℕ
+nextAt at (End end) = end
+nextAt at TooSmall = at
+
+abbrev pub toldBy : ℕ → Placed → WriteResult
+toldBy needed (End end) = Ok end
+toldBy needed TooSmall = Err (BufferTooSmall needed)
+
+abbrev pub puts : Cursor → List ℕ → Placed
+puts c b = placed (now (c .out)) (c .pos) b
+
+abbrev pub told : Cursor → List ℕ → WriteResult
+told c b = toldBy (c .needed) (puts c b)
+
+abbrev pub moved : Cursor → List ℕ → Cursor
+moved c b = record {
+  out = at-last (c .out) (putIn (now (c .out)) (c .pos) b);
+  pos = nextAt (c .pos) (puts c b);
+  needed = c .needed;
+}

@@ -1,0 +1,8 @@
+-- Puts one behind the other.
+pub mod Chain
+-- What a writer answers and leaves.
+pub mod Writers
+-- A frame put into a buffer.
+pub mod Frames
+-- A frame taken apart.
+pub mod Framing

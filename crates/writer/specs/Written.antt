@@ -1,0 +1,67 @@
+-- What every writer of a frame answers, and the buffer that it leaves.
+--   written out f             the buffer out with the frame f written: the frame, then the bytes that stood behind it
+--   unless b e                the refusal e, unless the test b holds
+--   refusalFor w f n          why f is not written into n bytes, if it is not: the refusal w of the value, if there is
+--                             one; else 4, with the bytes needed, where f is longer
+--   answerOf w f n            the answer: the bytes written, or that refusal
+--   bufferAfter w f out       the buffer left: with f written, or as it was
+--   numberOfWrite r           the number of an answer's refusal, 0 where nothing is refused
+--   WriteCauses k Bad f n r   each number is given by the answer r exactly in its cause: k to a bad value
+--   framable d, frameRefusal d   "that many data bytes, 0 to 65,535": no length can say more
+use mathlib.Core.Path.{_≡_}
+use mathlib.Core.Logic.{_↔_}
+use mathlib.Core.List.{List, _++_}
+use mathlib.Core.Bool.{Bool, true, false}
+use mathlib.Core.Option.{Option, none, some}
+use Prim.Native.Nat.{ℕ, _≤_, _<_}
+use lib.Dec.{leb}
+use lib.ListN.{length, drop}
+use Rattle.refusal.specs.Refusal.{numberOf}
+use Rattle.refusal.specs.declared.Error.{Error}
+use Rattle.refusal.specs.declared.Error.the-variants.{BufferTooSmall, Unrepresentable}
+use Rattle.writer.specs.declared.WriteResult.{WriteResult}
+use Rattle.writer.specs.declared.WriteResult.the-variants.{Ok, Err}
+
+unfoldable pub written : List ℕ → List ℕ → List ℕ
+written out f = f ++ drop (length f) out
+
+abbrev pub unless : Bool → Error → Option Error
+unless true e = none
+unless false e = some e
+
+abbrev pub refusalFor : Option Error → List ℕ → ℕ → Option Error
+refusalFor none f n = unless (leb (length f) n) (BufferTooSmall (length f))
+refusalFor (some e) f n = some e
+
+abbrev pub answered : Option Error → ℕ → WriteResult
+answered none n = Ok n
+answered (some e) n = Err e
+
+abbrev pub changed : Option Error → List ℕ → List ℕ → List ℕ
+changed none new old = new
+changed (some e) new old = old
+
+unfoldable pub answerOf : Option Error → List ℕ → ℕ → WriteResult
+answerOf w f n = answered (refusalFor w f n) (length f)
+
+unfoldable pub bufferAfter : Option Error → List ℕ → List ℕ → List ℕ
+bufferAfter w f out = changed (refusalFor w f (length out)) (written out f) out
+
+abbrev pub framable : List ℕ → Bool
+framable d = leb (length d) 65535
+
+abbrev pub frameRefusal : List ℕ → Option Error
+frameRefusal d = unless (framable d) Unrepresentable
+
+abbrev pub numberOfWrite : WriteResult → ℕ
+numberOfWrite (Ok n) = 0
+numberOfWrite (Err e) = numberOf e
+
+pub record WriteCauses (k : ℕ) (Bad : Type 0) (f : List ℕ) (n : ℕ) (r : WriteResult) : Type 0 where
+  -- nothing is refused exactly if the value is good and the frame fits
+  pub accepted : numberOfWrite r ≡ 0 ↔ (Bad → ⊥) × (length f ≤ n)
+  -- the value's number is given exactly if it is bad, whatever the buffer
+  pub refused : numberOfWrite r ≡ k ↔ Bad
+  -- 4, with the bytes needed, is given exactly if the value is good and the buffer is shorter than the frame
+  pub short : numberOfWrite r ≡ 4 ↔ (Bad → ⊥) × (n < length f)
+  pub needed : numberOfWrite r ≡ 4 → r ≡ Err (BufferTooSmall (length f))

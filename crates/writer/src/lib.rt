@@ -1,0 +1,47 @@
+// A whole frame put into the caller's buffer, and what every writer of frames answers.
+use put::put;
+use put::put_u16;
+use refusal::Error;
+use wire::FRAMING;
+use wire::Kind;
+ghost use mathlib.Core.Path.{_≡_};
+ghost use mathlib.Core.Bool.{false};
+ghost use lib.ListN.{length};
+ghost use Rattle.wire.specs.Family.{framed};
+ghost use Rattle.writer.specs.Written.{answerOf, bufferAfter, frameRefusal, framable, WriteCauses};
+
+// Most data bytes that a frame's length can say.
+pub const MAX_LENGTH: usize = 65_535;
+
+// What a writer answers: the bytes written, or the refusal.
+pub enum WriteResult {
+    Ok(usize),
+    Err(Error),
+}
+
+// Puts the frame of a family with the data at the front: header, length, data, tail. Refuses with 6 data that no length
+// can say, then with 4 a buffer shorter than the frame. Bytes behind the frame stay.
+pub fn put_frame(out: &mut [u8], kind: Kind, data: &[u8]) -> WriteResult
+    ensures told { λ r. ⌜ r ≡ answerOf (frameRefusal (now («data» .entry))) (framed kind (now («data» .entry)))
+        (length (now (out .entry))) ⌝ }
+    ensures left { λ _. ⌜ now (out .exit) ≡ bufferAfter (frameRefusal (now («data» .entry)))
+        (framed kind (now («data» .entry))) (now (out .entry)) ⌝ }
+    ensures causes { λ r. ⌜ WriteCauses 6 (framable (now («data» .entry)) ≡ false) (framed kind (now («data» .entry)))
+        (length (now (out .entry))) r ⌝ }
+{
+    if MAX_LENGTH < data.len() {
+        return WriteResult::Err(Error::Unrepresentable);
+    }
+    let needed = FRAMING + data.len();
+    if out.len() < needed {
+        return WriteResult::Err(Error::BufferTooSmall { needed });
+    }
+    // There is room for the whole frame, so each put below finds its place.
+    let header = kind.header();
+    put(out, 0, &header);
+    put_u16(out, 4, data.len() as u16);
+    put(out, 6, data);
+    let tail = kind.tail();
+    put(out, 6 + data.len(), &tail);
+    WriteResult::Ok(needed)
+}
