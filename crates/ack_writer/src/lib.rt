@@ -1,14 +1,14 @@
 // The writer of acknowledgement frames, as the module sends them.
 //
 // It writes each value that the reader of frames can give, with a payload of at most 50 bytes, and refuses every other.
-use writer::WriteResult;
 use put::put;
-use writer::put_frame;
 use put::put_u16;
 use refusal::Error;
 use wire::ACK_BIT;
 use wire::Kind;
 use wire::MAX_DATA;
+use writer::WriteResult;
+use writer::put_frame;
 ghost use mathlib.Core.Path.{_≡_};
 ghost use mathlib.Core.Bool.{false};
 ghost use lib.ListN.{length};

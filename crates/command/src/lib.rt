@@ -2,7 +2,6 @@
 //
 // What the module takes is said once, in `Command::encodable`: the encoder refuses any other value, and the reader
 // knows no other frame.
-use writer::WriteResult;
 use refusal::Error;
 use request::Value;
 use request::asks;
@@ -14,6 +13,7 @@ use setting::may_be_farthest;
 use wire::FRAMING;
 use wire::same;
 use wire::word;
+use writer::WriteResult;
 
 mod reader;
 

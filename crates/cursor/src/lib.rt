@@ -4,12 +4,12 @@
 // Every method is total: where there is too little room it refuses with 4 and the bytes needed in all, and neither the
 // slice nor the position changes.
 use put::Placed;
-use writer::WriteResult;
 use put::put;
 use put::put_record;
 use put::put_u16;
 use put::put_u32;
 use refusal::Error;
+use writer::WriteResult;
 ghost use mathlib.Core.Path.{_≡_};
 ghost use mathlib.Core.List.{_++_};
 ghost use Rattle.wire.specs.Number.{leBytes};

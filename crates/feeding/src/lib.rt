@@ -86,7 +86,12 @@ pub fn feed_at(buf: &mut [u8; MAX_FRAME], scan: Scan, stats: Stats, byte: u8) ->
 }
 
 // Bytes up to and including the end of the first whole frame, decoded or not, else all of them.
-pub fn feed_slice_at(buf: &mut [u8; MAX_FRAME], scan: Scan, stats: Stats, bytes: &[u8]) -> MovedSlice
+pub fn feed_slice_at(
+    buf: &mut [u8; MAX_FRAME],
+    scan: Scan,
+    stats: Stats,
+    bytes: &[u8],
+) -> MovedSlice
     ensures moved { λ r. ⌜ (r ≡ sliceMovedOf linkMost scan stats (now (buf .entry)) (now (bytes .entry)))
         × (now (buf .exit) ≡ sliceBufOf linkMost scan stats (now (buf .entry)) (now (bytes .entry))) ⌝ }
 {

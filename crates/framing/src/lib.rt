@@ -10,62 +10,47 @@ ghost use Rattle.framing.specs.Claims.{EngineEmpty, EngineAccounts, Engi
 ghost use Rattle.framing.specs.Claims.{EngineAlike, EngineResumed, CodedExists};
 ghost use Rattle.framing.specs.Claims.{SampleDivision, SampleHistory, SampleFinal, SampleCorrect};
 
-// Every string has exactly one division, whose pieces are the string and account for each of its bytes.
+// `exists`, `unique`, `spelled`, `length`: every string has exactly one division, whose pieces are the string and
+// account for each of its bytes.
+// `append`, `total`, `behind`: what more bytes do to a division, and to its totals.
+// `bound`, `reached`: how often a stream can break, and that some break so often.
 pub fn division_claims()
     ensures exists { λ _. ⌜ DivisionExists ⌝ }
     ensures unique { λ _. ⌜ DivisionUnique ⌝ }
     ensures spelled { λ _. ⌜ DivisionSpelled ⌝ }
     ensures length { λ _. ⌜ DivisionLength ⌝ }
-{}
-
-// What more bytes do to a division, and to its totals.
-pub fn append_claims()
     ensures append { λ _. ⌜ DivisionAppend ⌝ }
     ensures total { λ _. ⌜ TotalAppend ⌝ }
     ensures behind { λ _. ⌜ DivisionBehind ⌝ }
-{}
-
-// How often a stream can break, and that some break so often.
-pub fn resync_claims()
     ensures bound { λ _. ⌜ ResyncsBound ⌝ }
     ensures reached { λ _. ⌜ ResyncsReached ⌝ }
 {}
 
-// Runs of calls, and the stretches between resets.
-pub fn run_claims()
+// `append`, `glued`, `apart`: runs of calls, and the stretches between resets.
+// `correct`, `reset`, `behind`, `fed`: a parser that follows the division at each byte is right over any list of calls:
+// demand 3. `exists`, `coded`: there are such parsers.
+// `empty`, `accounts`, `same`: what follows from that claim alone: an empty slice does nothing, every byte taken is
+// accounted for, and any two parsers of which it holds do the same.
+// `alike`, `resumed`: a second engine over the same framing, and a run that is stored and resumed.
+// `division`, `history`, `counters`, `sample_correct`: a sample that meets every hypothesis above, and in which every
+// case occurs.
+pub fn engine_claims()
     ensures append { λ _. ⌜ HistoryAppend ⌝ }
     ensures glued { λ _. ⌜ StretchesGlued ⌝ }
     ensures apart { λ _. ⌜ StretchesApart ⌝ }
-{}
-
-// A parser that follows the division at each byte is right over any list of calls: demand 3. There are such parsers.
-pub fn engine_claims()
     ensures correct { λ _. ⌜ EngineCorrect ⌝ }
     ensures reset { λ _. ⌜ EngineReset ⌝ }
     ensures behind { λ _. ⌜ EngineBehind ⌝ }
     ensures fed { λ _. ⌜ EngineFed ⌝ }
     ensures exists { λ _. ⌜ EngineExists ⌝ }
     ensures coded { λ _. ⌜ CodedExists ⌝ }
-{}
-
-// What follows from that claim alone: an empty slice does nothing, every byte taken is accounted for, and any two
-// parsers of which it holds do the same.
-pub fn outcome_claims()
     ensures empty { λ _. ⌜ EngineEmpty ⌝ }
     ensures accounts { λ _. ⌜ EngineAccounts ⌝ }
     ensures same { λ _. ⌜ EngineSame ⌝ }
-{}
-
-// A second engine over the same framing, and a run that is stored and resumed.
-pub fn second_engine_claims()
     ensures alike { λ _. ⌜ EngineAlike ⌝ }
     ensures resumed { λ _. ⌜ EngineResumed ⌝ }
-{}
-
-// A sample that meets every hypothesis above, and in which every case occurs.
-pub fn sample_claims()
     ensures division { λ _. ⌜ SampleDivision ⌝ }
     ensures history { λ _. ⌜ SampleHistory ⌝ }
     ensures counters { λ _. ⌜ SampleFinal ⌝ }
-    ensures correct { λ _. ⌜ SampleCorrect ⌝ }
+    ensures sample_correct { λ _. ⌜ SampleCorrect ⌝ }
 {}

@@ -2,11 +2,11 @@
 //
 // One function measures, and a straight maker writes: it is called where there is room for the whole frame, so that no
 // put is refused.
-use writer::WriteResult;
 use cursor::Cursor;
 use refusal::Error;
 use wire::FRAMING;
 use wire::Kind;
+use writer::WriteResult;
 ghost use mathlib.Core.Path.{_≡_};
 ghost use mathlib.Core.List.{[], _∷_};
 ghost use mathlib.Core.Option.{none};

@@ -10,12 +10,12 @@ use crate::line::number;
 use crate::line::numbers;
 use command::Command;
 use command::CommandResult;
-use writer::WriteResult;
 use put::u16_bytes;
 use setting::Baud;
 use setting::Gate;
 use setting::MaybeBaud;
 use wire::least;
+use writer::WriteResult;
 
 // Where the command begins in an argument of op 6.
 const COMMAND_AT: usize = 3;

@@ -13,12 +13,12 @@ use Rattle.engineering.specs.Block.{engineeringOf}
 use Rattle.report.specs.Report.{dataType, body, block, basicOf, isEngineering, reportBy, reportOf}
 use Rattle.report.specs.declared.Report.{Report}
 use Rattle.frame.specs.Frame.{announced, dataOf}
-use Rattle.report_writer.specs.Data.{typeOf, basicBytes, blockIf, frontOf, reportData, trailer}
-use Rattle.report_writer.specs.Writable.{allZero, counted, within, writable}
+use Rattle.report_data.specs.Data.{typeOf, basicBytes, blockIf, frontOf, reportData, trailer}
+use Rattle.report_data.specs.Writable.{allZero, counted, within, writable}
 use Rattle.report_writer.specs.RoundTrip.{ReadAs, Short, WrittenAgain}
 use Rattle.report_writer.proofs.Basics.{basic-again}
 use Rattle.report_writer.proofs.Blocks.{block-within, block-again}
-use Rattle.report_writer.proofs.Counts.{within-complete}
+use Rattle.report_data.proofs.Counts.{within-complete}
 use Rattle.report_writer.proofs.Reading.{read-sound, read-framed}
 use Rattle.report_writer.proofs.Shapes.{View, plain, full, Shape, passes-shape}
 

@@ -13,14 +13,14 @@ use Rattle.writer.proofs.Chain.{written-front}
 use Rattle.writer.proofs.Writers.{Wrote, wrote-all, none-good}
 use Rattle.engineering.specs.declared.Engineering.{Engineering}
 use Rattle.report.specs.declared.Report.{Report}
-use Rattle.report_writer.specs.Data.{reportFrame}
-use Rattle.report_writer.specs.Writable.{writableIf, writable, unrepresentable}
+use Rattle.report_data.specs.Data.{reportFrame}
+use Rattle.report_data.specs.Writable.{writableIf, writable, unrepresentable}
 use Rattle.report_writer.specs.RoundTrip.{Readable, ReadBack, WrittenAgain}
 use Rattle.report_writer.proofs.Again.{read-writable, frame-again}
 use Rattle.report_writer.proofs.Back.{frame-back}
-use Rattle.report_writer.proofs.Counts.{within-sound}
+use Rattle.report_data.proofs.Counts.{within-sound}
 use Rattle.report_writer.proofs.FrameBytes.{frame-bytes}
-use Rattle.report_writer.proofs.Typed.{TypedReport}
+use Rattle.report_data.proofs.Typed.{TypedReport}
 use Rattle.report_writer.proofs.Writing.{Answered}
 
 writable-short : (flag : Bool) (e : Engineering) → writableIf flag e ≡ true → e .«extra_len» ≤ 8
@@ -43,7 +43,8 @@ module _ (r : Report) (t : TypedReport r) where
     read-back : Wrote (unrepresentable r) (reportFrame r) out w left → ReadBack r w left
     read-back h n e =
         let a = wrote-all (reportFrame r) out left n (unrepresentable r) (rw e at h) in
-        rw (a .content, a .size, written-front out (reportFrame r)) (frame-back r t (none-good (writable r) Unrepresentable (a .good)))
+        let g = none-good (writable r) Unrepresentable (a .good) in
+        rw (a .content, a .size, written-front out (reportFrame r)) (frame-back r t g)
 
     pub complete : Answered r out left w
         → (w ≡ answerOf (unrepresentable r) (reportFrame r) (length out))

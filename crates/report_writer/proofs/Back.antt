@@ -8,16 +8,16 @@ use Rattle.report.specs.Report.{basicOf, reportBy, reportOf}
 use Rattle.report.specs.Check.{reportChecks}
 use Rattle.engineering.specs.declared.Engineering.{Engineering}
 use Rattle.report.specs.declared.Report.{Report}
-use Rattle.report_writer.specs.Data.{typeOf, basicBytes, blockIf, blockOf, reportData, frontOf, reportFrame}
-use Rattle.report_writer.specs.Writable.{writableIf, writable}
+use Rattle.report_data.specs.Data.{typeOf, basicBytes, blockIf, blockOf, reportData, frontOf, reportFrame}
+use Rattle.report_data.specs.Writable.{writableIf, writable}
 use Rattle.report_writer.specs.RoundTrip.{ReadAs}
 use Rattle.report_writer.proofs.Basics.{basic-back}
 use Rattle.report_writer.proofs.Blocks.{none-back, block-fits, block-back}
-use Rattle.report_writer.proofs.Counts.{within-sound}
+use Rattle.report_data.proofs.Counts.{within-sound}
 use Rattle.report_writer.proofs.Reading.{read-complete}
 use Rattle.report_writer.proofs.Shapes.{shaped, shaped-body, shaped-passes}
-use Rattle.report_writer.proofs.Typed.{TypedReport}
-use Rattle.report_writer.proofs.Writing.{data-short}
+use Rattle.report_data.proofs.Puts.{data-short}
+use Rattle.report_data.proofs.Typed.{TypedReport}
 
 module _ (r : Report) (t : TypedReport r) where
   abbrev e : Engineering

@@ -14,8 +14,8 @@ use Rattle.report.specs.Report.{basicOf, reportWith}
 use Rattle.engineering.specs.declared.Engineering.{Engineering}
 use Rattle.report.specs.declared.Report.{Report}
 use Rattle.target_state.proofs.States.{state-byte}
-use Rattle.report_writer.specs.Data.{basicBytes}
-use Rattle.report_writer.proofs.Typed.{TypedReport}
+use Rattle.report_data.specs.Data.{basicBytes}
+use Rattle.report_data.proofs.Typed.{TypedReport}
 use mathlib.Core.Bool.{Bool}
 
 two-bytes : (x : ℕ) → x < 65536 → little (x % 256 ∷ x / 256 % 256 ∷ []) ≡ x

@@ -11,11 +11,11 @@ use Rattle.engineering.specs.Block.{movingGates, stationaryGates, reserved, fit
 use Rattle.engineering.specs.Block.{engineeringOf, noEngineering}
 use Rattle.engineering.specs.declared.Engineering.{Engineering}
 use Rattle.engineering.proofs.Blocks.{Fits, fits-complete}
-use Rattle.report_writer.specs.Data.{movingEnergies, stationaryEnergies, reservedBytes, blockOf}
-use Rattle.report_writer.proofs.Counts.{Within}
-use Rattle.report_writer.proofs.Typed.{TypedBlock}
+use Rattle.report_data.specs.Data.{movingEnergies, stationaryEnergies, reservedBytes, blockOf}
+use Rattle.report_data.proofs.Counts.{Within}
+use Rattle.report_data.proofs.Typed.{TypedBlock}
 use Rattle.report_writer.proofs.Padding.{zeros-whole, padded-back, padded-front, padded-behind}
-use Rattle.report_writer.proofs.Puts.{moving-length, stationary-length, reserved-length}
+use Rattle.report_data.proofs.Puts.{moving-length, stationary-length, reserved-length}
 use Rattle.report_writer.proofs.Shapes.{two-front}
 
 -- Two counts, so many energies of each and reserved bytes, taken apart.

@@ -13,11 +13,11 @@ use Rattle.target_state.specs.declared.TargetState.{TargetState}
 use Rattle.target_state.specs.declared.TargetState.the-variants.{None, Moving, Stationary, Both}
 use Rattle.engineering.specs.declared.Engineering.{Engineering}
 use Rattle.report.specs.declared.Report.{Report}
-use Rattle.report_writer.specs.Data.{movingEnergies, stationaryEnergies, reservedBytes, blockOf, blockIf}
-use Rattle.report_writer.specs.Data.{typeOf, frontOf, trailer, reportData, reportFrame}
-use Rattle.report_writer.specs.Writable.{writableIf, writable}
-use Rattle.report_writer.proofs.Counts.{within-sound}
-use Rattle.report_writer.proofs.Typed.{TypedBlock, TypedReport}
+use Rattle.report_data.specs.Data.{movingEnergies, stationaryEnergies, reservedBytes, blockOf, blockIf}
+use Rattle.report_data.specs.Data.{typeOf, frontOf, trailer, reportData, reportFrame}
+use Rattle.report_data.specs.Writable.{writableIf, writable}
+use Rattle.report_data.proofs.Counts.{within-sound}
+use Rattle.report_data.proofs.Typed.{TypedBlock, TypedReport}
 
 type-byte : (g : Bool) → typeOf g < 256
 type-byte true = omega arith

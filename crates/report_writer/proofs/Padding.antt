@@ -10,9 +10,9 @@ use lib.Seq.{length-take-le, take-all, take-at, drop-at}
 use borrow.Author.Tests.{eqb-true}
 use Rattle.wire.specs.Prefix.{padded}
 use Rattle.wire.proofs.Equality.{both-true}
-use Rattle.report_writer.specs.Writable.{allZero}
-use Rattle.report_writer.proofs.Counts.{Counted}
-use Rattle.report_writer.proofs.Typed.{Held}
+use Rattle.report_data.specs.Writable.{allZero}
+use Rattle.report_data.proofs.Counts.{Counted}
+use Rattle.report_data.proofs.Typed.{Held}
 
 zeros-sound : (s : List ℕ) → allZero s ≡ true → s ≡ replicate (length s) 0
 unfolding allZero

@@ -14,7 +14,7 @@ use Rattle.engineering.specs.Block.{fits}
 use Rattle.report.specs.Report.{dataType, body, block}
 use Rattle.report.specs.Check.{reportChecks, knownType, nothingAfter, blockFits}
 use Rattle.engineering.proofs.Blocks.{Fits, fits-sound}
-use Rattle.report_writer.specs.Data.{trailer}
+use Rattle.report_data.specs.Data.{trailer}
 
 module _ (t h : ℕ) (c : List ℕ) where
   abbrev pub shaped : List ℕ

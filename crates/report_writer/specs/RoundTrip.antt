@@ -23,8 +23,8 @@ use Rattle.report.specs.declared.Report.{Report}
 use Rattle.frame.specs.Frame.{dataOf, noAck, parsedFrame}
 use Rattle.frame.specs.declared.Frame.{Frame}
 use Rattle.frame.specs.declared.FrameKind.the-variants as Is
-use Rattle.report_writer.specs.Data.{reportFrame}
-use Rattle.report_writer.specs.Writable.{writable}
+use Rattle.report_data.specs.Data.{reportFrame}
+use Rattle.report_data.specs.Writable.{writable}
 
 abbrev pub holding : Report → Frame
 holding r = record { kind = Is.Report; report = r; ack = noAck }

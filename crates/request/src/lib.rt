@@ -1,17 +1,17 @@
 // The frames that commands are sent in: a word and its value, written as a whole; and the test that a frame asks
 // something of the module.
-use writer::MAX_LENGTH;
-use writer::WriteResult;
-use put::u16_bytes;
 use maker::put_bare;
 use maker::put_number;
 use maker::put_records;
+use put::u16_bytes;
 use wire::ACK_BIT;
 use wire::FRAMING;
 use wire::Kind;
 use wire::MaybeU16;
 use wire::le16;
 use wire::same;
+use writer::MAX_LENGTH;
+use writer::WriteResult;
 ghost use mathlib.Core.Path.{_≡_};
 ghost use mathlib.Core.Option.{none};
 ghost use lib.ListN.{length};

@@ -1,7 +1,6 @@
 // What bytes do to a scan: one byte's step, and the run of a slice, without what the frames hold.
 use scan::Ended;
 use scan::Scan;
-use scan::Scanned;
 use scan::State;
 use scan::Stats;
 use scan::Stepped;
@@ -11,6 +10,7 @@ use wire::MAX_FRAME;
 
 mod parts;
 
+pub use parts::run_at;
 ghost use mathlib.Core.Path.{_≡_};
 ghost use mathlib.Core.Bool.{true};
 ghost use Prim.Native.Nat.{_≤_, _<_};
@@ -20,7 +20,6 @@ ghost use Rattle.stream.specs.Link.{linkMost};
 ghost use Rattle.scan.specs.Scan.{inOrder, settled};
 ghost use Rattle.scan.specs.Start.{went};
 ghost use Rattle.step.specs.Step.{stepHeader, stepLen, stepData, stepTail, stepOf, stored};
-ghost use Rattle.step.specs.Slice.{runOf};
 
 // The header byte that follows `matched` of them.
 fn header_byte(kind: Kind, matched: usize) -> u8
@@ -149,13 +148,4 @@ pub fn step_at(buf: &mut [u8; MAX_FRAME], scan: Scan, stats: Stats, byte: u8) ->
     let at = scan.settled();
     store(buf, at, byte);
     step(at, stats, byte)
-}
-
-// The bytes of a slice, up to and with the first that ends a frame. A scan with a number out of range is handled as if
-// reset came first.
-pub fn run_at(buf: &mut [u8; MAX_FRAME], scan: Scan, stats: Stats, bytes: &[u8]) -> Scanned
-    ensures run { λ r. ⌜ (let run = runOf linkMost (settled linkMost scan) stats (now (buf .entry)) (now (bytes .entry))
-        in (r ≡ run .scanned) × (now (buf .exit) ≡ run .buf)) ⌝ }
-{
-    parts::scan_slice(buf, scan.settled(), stats, bytes)
 }

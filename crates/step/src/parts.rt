@@ -16,7 +16,7 @@ ghost use mathlib.Core.Bool.{true};
 ghost use Prim.Native.Nat.{_<_};
 ghost use lib.ListN.{length};
 ghost use Rattle.stream.specs.Link.{linkMost};
-ghost use Rattle.scan.specs.Scan.{inOrder};
+ghost use Rattle.scan.specs.Scan.{inOrder, settled};
 ghost use Rattle.step.specs.Slice.{runOf};
 ghost use Rattle.step.specs.Phase.{Stands, Onward, OnwardDry};
 ghost use Rattle.scan.specs.declared.State.the-variants.{Header, Len, Data, Tail};
@@ -149,7 +149,7 @@ fn take_some(
 }
 
 // Takes the bytes up to and with the first that ends a frame.
-pub fn scan_slice(buf: &mut [u8; MAX_FRAME], scan: Scan, stats: Stats, bytes: &[u8]) -> Scanned
+fn scan_slice(buf: &mut [u8; MAX_FRAME], scan: Scan, stats: Stats, bytes: &[u8]) -> Scanned
     requires { ⌜ inOrder linkMost scan ≡ true ⌝ }
     ensures run { λ r. ⌜ (r ≡ runOf linkMost scan stats (now (buf .entry)) (now (bytes .entry)) .scanned)
         × (now (buf .exit) ≡ runOf linkMost scan stats (now (buf .entry)) (now (bytes .entry)) .buf) ⌝ }
@@ -180,4 +180,13 @@ pub fn scan_slice(buf: &mut [u8; MAX_FRAME], scan: Scan, stats: Stats, bytes: &[
         ended,
         taken,
     }
+}
+
+// The bytes of a slice, up to and with the first that ends a frame. A scan with a number out of range is handled as if
+// reset came first.
+pub fn run_at(buf: &mut [u8; MAX_FRAME], scan: Scan, stats: Stats, bytes: &[u8]) -> Scanned
+    ensures run { λ r. ⌜ (let run = runOf linkMost (settled linkMost scan) stats (now (buf .entry)) (now (bytes .entry))
+        in (r ≡ run .scanned) × (now (buf .exit) ≡ run .buf)) ⌝ }
+{
+    scan_slice(buf, scan.settled(), stats, bytes)
 }

@@ -1,15 +1,40 @@
--- A lawful engine is right: cited from Correct, Behind, Fed, Reference and Coded. Assumes nothing.
+-- Runs, engines, what follows of them, and the sample: cited from the file of each. Assumes nothing.
 use mathlib.Core.List.{[]}
+use mathlib.Core.Path.{refl}
 use Rattle.framing.specs.Tests.{framingOf}
+use Rattle.framing.specs.Sample.{sample, stream}
+use Rattle.framing.proofs.Runs.{history-append, final-append}
+use Rattle.framing.proofs.Glue.{stretches-glued, stretches-apart}
 use Rattle.framing.proofs.Correct.{correct, correct-reset}
 use Rattle.framing.proofs.Behind.{correct-behind}
 use Rattle.framing.proofs.Fed.{every-frame}
 use Rattle.framing.proofs.Reference.{reference-lawful}
 use Rattle.framing.proofs.Coded.{coded, coded-tests, coded-fresh}
-use Rattle.framing.specs.Claims.{EngineCorrect, EngineReset, EngineBehind, EngineFed}
-use Rattle.framing.specs.Claims.{EngineExists, CodedExists}
+use Rattle.framing.proofs.Empty.{empty-slice}
+use Rattle.framing.proofs.Accounts.{accounts}
+use Rattle.framing.proofs.Same.{same}
+use Rattle.framing.proofs.Alike.{alike-same}
+use Rattle.framing.proofs.Resumed.{resumed}
+use Rattle.framing.proofs.Scanner.{division-exists}
+use Rattle.framing.proofs.Sample.{sample-correct}
+use Rattle.framing.specs.Claims.{HistoryAppend, StretchesGlued, StretchesApart, EngineCorrect, EngineReset}
+use Rattle.framing.specs.Claims.{EngineBehind, EngineFed, EngineExists, CodedExists, EngineEmpty}
+use Rattle.framing.specs.Claims.{EngineAccounts, EngineSame, EngineAlike, EngineResumed, SampleDivision}
+use Rattle.framing.specs.Claims.{SampleHistory, SampleFinal, SampleCorrect}
 use Rattle.framing.proofs.engine_claims.Statement.{statement}
 use Rattle.framing.proofs.engine_claims.Tie as tie
+
+appended : HistoryAppend
+unfolding HistoryAppend
+appended M s cs ds = (history-append M s cs ds, final-append M s cs ds)
+
+glued : StretchesGlued
+unfolding StretchesGlued
+glued ds = stretches-glued ds
+
+apart : StretchesApart
+unfolding StretchesApart
+apart ds = stretches-apart ds
 
 right : EngineCorrect
 unfolding EngineCorrect
@@ -39,8 +64,55 @@ coded-exists : CodedExists
 unfolding CodedExists
 coded-exists X D C = (coded X D C, coded-tests X D C, ([], coded-fresh X D C .0, coded-fresh X D C .1))
 
+empty : EngineEmpty
+unfolding EngineEmpty
+empty X D C E s calls x g m before k a behind e =
+    empty-slice (framingOf X) D C E s calls x g m before k a behind e
+
+accounted : EngineAccounts
+unfolding EngineAccounts
+accounted X D C E k e s calls x g z room = accounts (framingOf X) D C E k e s calls x g z room
+
+does-same : EngineSame
+unfolding EngineSame
+does-same X D C E E′ s s′ calls x y most e = same (framingOf X) D C E E′ s s′ calls x y most e
+
+alike : EngineAlike
+unfolding EngineAlike
+alike X D C E E′ v v′ L L′ most s s′ ok ok′ a calls h =
+    alike-same (framingOf X) D C E E′ L L′ most s s′ ok ok′ a calls h
+
+goes-on : EngineResumed
+unfolding EngineResumed
+goes-on X D C E E′ v v′ L L′ most s s′ ok ok′ cs ds h h′ a =
+    resumed (framingOf X) D C E E′ L L′ most s s′ ok ok′ cs ds h h′ a
+
+divides : SampleDivision
+unfolding SampleDivision
+divides = division-exists (framingOf sample) stream
+
+runs : SampleHistory
+unfolding SampleHistory
+runs = refl
+
+ends : SampleFinal
+unfolding SampleFinal
+ends = (refl, refl, refl, refl, refl)
+
+sample-right : SampleCorrect
+unfolding SampleCorrect
+sample-right = sample-correct
+
+sampled : SampleDivision × (SampleHistory × (SampleFinal × SampleCorrect))
+sampled = (divides, (runs, (ends, sample-right)))
+
+followed-by : {R : Type 0} → R → EngineEmpty × (EngineAccounts × (EngineSame × (EngineAlike × (EngineResumed × R))))
+followed-by r = (empty, (accounted, (does-same, (alike, (goes-on, r)))))
+
 returns : tie.Need-returns
-returns c = (right, (right-reset, (right-behind, (frames-fed, (lawful, coded-exists)))))
+returns c =
+    let rest = followed-by sampled in
+    (appended, (glued, (apart, (right, (right-reset, (right-behind, (frames-fed, (lawful, (coded-exists, rest)))))))))
 
 pub engine-claims-spec : {M : Type 1} → statement M
 engine-claims-spec = tie.close (tie.spec returns)

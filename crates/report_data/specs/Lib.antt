@@ -1,0 +1,3 @@
+pub mod Data
+pub mod Writable
+pub mod Laid
