@@ -1,13 +1,13 @@
-//! Feeds loads to the proved parser (bench/link, linked as a static library) and to the original Rust, in one process.
+//! Feeds loads to the proved parser (bench/link, linked as a static library) and to the original Rust (bench/src/rust.rs), in one process.
 //! Every field of every frame delivered, and the final counters, go into a digest on both sides, and the digests must
 //! agree.
 //!
 //! usage: bench                          nanoseconds a byte of every variant on every load: the least of the rounds
 //!        bench VARIANT LOAD TIMES       feeds LOAD, TIMES over, once: for callgrind, which counts inside VARIANT
-mod digest;
 mod load;
 
 use ld2410::{Ack, Frame, Parser};
+use rust_link::{digest, rust_feed, rust_feed_slice};
 use std::hint::black_box;
 use std::time::Instant;
 
@@ -16,49 +16,24 @@ type Variant = unsafe extern "C" fn(*const u8, usize) -> u64;
 
 #[link(name = "bench_link", kind = "static")]
 unsafe extern "C" {
-    fn ours_fed_slice(bytes: *const u8, len: usize) -> u64;
     fn ours_feed_slice(bytes: *const u8, len: usize) -> u64;
-    fn ours_fed(bytes: *const u8, len: usize) -> u64;
     fn ours_feed(bytes: *const u8, len: usize) -> u64;
+}
+
+#[link(name = "bench_apart", kind = "static")]
+unsafe extern "C" {
+    fn apart_feed_slice(bytes: *const u8, len: usize) -> u64;
+    fn apart_feed(bytes: *const u8, len: usize) -> u64;
 }
 
 const VARIANTS: [(&str, Variant); 6] = [
     ("rust_feed_slice", rust_feed_slice),
-    ("ours_fed_slice", ours_fed_slice),
     ("ours_feed_slice", ours_feed_slice),
+    ("apart_feed_slice", apart_feed_slice),
     ("rust_feed", rust_feed),
-    ("ours_fed", ours_fed),
     ("ours_feed", ours_feed),
+    ("apart_feed", apart_feed),
 ];
-
-#[unsafe(no_mangle)]
-unsafe extern "C" fn rust_feed_slice(bytes: *const u8, len: usize) -> u64 {
-    let bytes = unsafe { std::slice::from_raw_parts(bytes, len) };
-    let mut parser = Parser::new();
-    let mut digest = 0;
-    let mut i = 0;
-    while i < bytes.len() {
-        let (taken, frame) = parser.feed_slice(&bytes[i..]);
-        if let Some(frame) = &frame {
-            digest = digest::frame(digest, frame);
-        }
-        i += taken;
-    }
-    digest::stats(digest, parser.stats())
-}
-
-#[unsafe(no_mangle)]
-unsafe extern "C" fn rust_feed(bytes: *const u8, len: usize) -> u64 {
-    let bytes = unsafe { std::slice::from_raw_parts(bytes, len) };
-    let mut parser = Parser::new();
-    let mut digest = 0;
-    for &byte in bytes {
-        if let Some(frame) = &parser.feed(byte) {
-            digest = digest::frame(digest, frame);
-        }
-    }
-    digest::stats(digest, parser.stats())
-}
 
 /// The frames of a load, a payload with as many bytes 0.
 fn frames(bytes: &[u8]) -> Vec<Frame<'static>> {

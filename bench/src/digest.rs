@@ -1,12 +1,12 @@
 //! The digest of bench/link over the original's frames: the same words of the same fields, in the same order.
 use ld2410::{Ack, Engineering, Frame, Report, Stats};
 
-fn mix(digest: u64, word: u64) -> u64 {
+pub fn mix(digest: u64, word: u64) -> u64 {
     digest.rotate_left(7) ^ word
 }
 
 /// The first eight bytes in one word.
-fn eight(bytes: &[u8]) -> u64 {
+pub fn eight(bytes: &[u8]) -> u64 {
     u64::from_le_bytes(bytes[..8].try_into().unwrap())
 }
 
@@ -17,7 +17,7 @@ fn engineering(digest: u64, detection: u64, e: &Engineering) -> u64 {
     mix(mix(mix(d, eight(&e.moving_energy)), eight(&e.stationary_energy)), eight(&e.extra))
 }
 
-fn report(digest: u64, r: &Report) -> u64 {
+pub fn report(digest: u64, r: &Report) -> u64 {
     let moving = (r.moving_distance_cm as u64) << 8 ^ (r.moving_energy as u64) << 24;
     let stationary = (r.stationary_distance_cm as u64) << 32 ^ (r.stationary_energy as u64) << 48;
     let flag = (r.engineering.is_some() as u64) << 56;

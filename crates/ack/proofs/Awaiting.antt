@@ -11,11 +11,12 @@ use Rattle.refusal.specs.declared.Error.{Error}
 use Rattle.refusal.specs.declared.Error.the-variants.{InvalidFormat, Hardware}
 use Rattle.refusal.specs.declared.Outcome.{Outcome}
 use Rattle.refusal.specs.declared.Outcome.the-variants.{Ok, Err}
-use Rattle.ack.specs.Awaited.{payloadIn, awaited, AwaitedCauses, spanAs, outcomeOfSpan, expected}
+use Rattle.ack.specs.Awaited.{awaited, AwaitedCauses, spanAs, outcomeOfSpan, expected}
 use Rattle.reply.specs.Reply.{Reply, judged, readAs}
+use Rattle.span.specs.Span.{payloadIn}
+use Rattle.span.specs.declared.Span.{Span}
 use Rattle.ack.specs.Awaited.{replied, ReplyCauses}
 use Rattle.ack.specs.declared.Ack.{Ack}
-use Rattle.ack.specs.declared.Span.{Span}
 use Rattle.ack.specs.declared.SpanResult.{SpanResult}
 use Rattle.ack.specs.declared.SpanResult.the-variants as Spanned
 

@@ -12,7 +12,7 @@ use mathlib.Core.Bool.{Bool}
 use Prim.Native.Nat.{ℕ, _-_, _/_, _%_}
 use lib.Dec.{leb, eqb}
 use lib.ListN.{length, take, drop}
-use Rattle.wire.specs.Number.{little}
+use Rattle.number.specs.Number.{little}
 use Rattle.refusal.specs.Check.{Checks, firstFailed, errorOf}
 use Rattle.refusal.specs.declared.Check.the-variants.{A1, A2}
 use Rattle.refusal.specs.declared.MaybeCheck.{MaybeCheck}

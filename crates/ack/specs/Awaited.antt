@@ -1,5 +1,4 @@
 -- Awaiting an acknowledgement, and reading its payload as the reply.
---   payloadIn s p       the bytes of the payload that stands at the span p in the bytes s
 --   awaited a w fits    the outcome where the word w is awaited and a is given, whose payload is readable or not
 --   AwaitedCauses a w fits o   each number is given by that outcome o exactly in its cause
 --   expected a w        the answer of `expect`
@@ -7,27 +6,19 @@
 --   ReplyCauses r a s o    each number is given by that answer's outcome o exactly in its cause
 use mathlib.Core.Path.{_≡_}
 use mathlib.Core.Logic.{_≢_, _↔_, _⊎_}
-use mathlib.Core.List.{List, []}
+use mathlib.Core.List.{List}
 use mathlib.Core.Bool.{Bool, true, false}
-use Prim.Native.Nat.{ℕ, _+_}
-use lib.Dec.{leb, eqb}
-use lib.ListN.{length, take, drop}
+use Prim.Native.Nat.{ℕ}
+use lib.Dec.{eqb}
 use Rattle.refusal.specs.Refusal.{refusalOf}
 use Rattle.refusal.specs.declared.Outcome.{Outcome}
 use Rattle.refusal.specs.declared.Outcome.the-variants.{Ok, Err}
 use Rattle.reply.specs.Reply.{Reply, judged}
+use Rattle.span.specs.Span.{payloadIn}
+use Rattle.span.specs.declared.Span.{Span}
 use Rattle.ack.specs.declared.Ack.{Ack}
-use Rattle.ack.specs.declared.Span.{Span}
 use Rattle.ack.specs.declared.SpanResult.{SpanResult}
 use Rattle.ack.specs.declared.SpanResult.the-variants as Spanned
-
--- "a payload not inside them counts as empty"
-abbrev pub ifInside : Bool → List ℕ → List ℕ
-ifInside true p = p
-ifInside false p = []
-
-unfoldable pub payloadIn : List ℕ → Span → List ℕ
-payloadIn s p = ifInside (leb (p .start + p .len) (length s)) (take (p .len) (drop (p .start) s))
 
 unfoldable pub awaited : Ack → ℕ → Bool → Outcome
 awaited a w fits = judged (eqb (a .word) w) (a .ok) fits

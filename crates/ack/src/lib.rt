@@ -1,6 +1,10 @@
 // Acknowledgements of the LD2410: reading one from a command frame's data, awaiting a command's, and reading its reply.
 //
 // Where the Rust's `Ack` borrows its payload, this one says where the payload stands, and a reply takes the bytes too.
+use number::MaybeU16;
+use number::le16;
+use parameters::Parameters;
+use parameters::ParametersResult;
 use refusal::Check;
 use refusal::Error;
 use reply::EnableConfig;
@@ -9,28 +13,20 @@ use reply::FirmwareVersion;
 use reply::FirmwareVersionResult;
 use reply::Mac;
 use reply::MacResult;
-use reply::Parameters;
-use reply::ParametersResult;
+use span::Span;
+use span::payload;
 use wire::ACK_BIT;
-use wire::MaybeU16;
-use wire::le16;
 use wire::word;
 ghost use mathlib.Core.Path.{_≡_};
 ghost use mathlib.Core.Bool.{true};
 ghost use Rattle.refusal.specs.Check.{Causes};
 ghost use Rattle.ack.specs.Ack.{ackChecks, checkedAck, parsedAck, outcomeOfAck};
-ghost use Rattle.ack.specs.Awaited.{payloadIn, expected, outcomeOfSpan, AwaitedCauses};
+ghost use Rattle.ack.specs.Awaited.{expected, outcomeOfSpan, AwaitedCauses};
 ghost use Rattle.ack.specs.Awaited.{replied, ReplyCauses};
 ghost use Rattle.reply.specs.Replies.{enableConfigReply, enableConfigAs, outcomeOfEnableConfig};
 ghost use Rattle.reply.specs.Replies.{firmwareReply, firmwareAs, outcomeOfFirmware};
 ghost use Rattle.reply.specs.Replies.{macReply, macAs};
-ghost use Rattle.reply.specs.Replies.{parametersReply, parametersAs};
-
-// Where a payload stands in the bytes beside the value.
-pub struct Span {
-    pub start: usize,
-    pub len: usize,
-}
+ghost use Rattle.parameters.specs.Parameters.{parametersReply, parametersAs};
 
 // An acknowledgement from the module. Its word is the request's, with the ACK bit cleared, so that it compares directly
 // with the constants of the module `word`. `ok` is read as status 0.
@@ -57,22 +53,6 @@ pub enum AckResult {
 pub enum SpanResult {
     Ok(Span),
     Err(Error),
-}
-
-// The bytes of a payload; none where the span is not inside `bytes`. A span may hold any two numbers, whose sum need
-// not fit, so its start and its length are compared one by one.
-fn payload<'a>(bytes: &'a [u8], span: Span) -> &'a [u8]
-    ensures found { λ r. ⌜ now r ≡ payloadIn (now (bytes .entry)) span ⌝ }
-{
-    let start = span.start;
-    let len = span.len;
-    if bytes.len() < start {
-        return &bytes[..0];
-    }
-    if bytes.len() - start < len {
-        return &bytes[..0];
-    }
-    &bytes[start..start + len]
 }
 
 impl Ack {

@@ -7,12 +7,12 @@ use Prim.Native.Nat.{ℕ, _+_, _<_}
 use native.Mathlib.Omega.{arith}
 use lib.ListN.{length}
 use borrow.Author.Tests.{le-leb}
-use Rattle.wire.specs.Bytes.{Bytes}
-use Rattle.wire.specs.Number.{leBytes}
+use Rattle.number.specs.Bytes.{Bytes}
+use Rattle.number.specs.Number.{leBytes}
 use Rattle.wire.specs.Family.{framed}
 use Rattle.wire.specs.declared.Kind.the-variants.{Command}
 use Rattle.refusal.specs.declared.Error.the-variants.{Unrepresentable}
-use Rattle.frame.proofs.Framed.{framed-length}
+use Rattle.envelope.proofs.Framed.{framed-length}
 use Rattle.writer.specs.Written.{framable, answerOf, bufferAfter, WriteCauses}
 use Rattle.writer.specs.declared.WriteResult.{WriteResult}
 use Rattle.writer.specs.declared.WriteResult.the-variants.{Err}

@@ -4,7 +4,7 @@ use mathlib.Core.List.{List, [], _++_}
 use Prim.Native.Nat.{ℕ, _+_, _≤_}
 use native.Mathlib.Omega.{arith}
 use lib.ListN.{length, take, replicate}
-use Rattle.wire.specs.Number.{leBytes}
+use Rattle.number.specs.Number.{leBytes}
 use Rattle.put.specs.Put.{putIn}
 use Rattle.writer.specs.Written.{written}
 use Rattle.writer.proofs.Chain.{written-nil, written-front, put-extends}

@@ -17,18 +17,20 @@ use Rattle.refusal.specs.declared.MaybeCheck.{MaybeCheck}
 use Rattle.refusal.specs.declared.MaybeCheck.the-variants as Maybe
 use Rattle.refusal.specs.declared.Outcome.the-variants.{Ok}
 use Rattle.refusal.proofs.Checks.{passes-sound}
-use Rattle.wire.proofs.Equality.{same-sound}
+use Rattle.byte_string.proofs.Equality.{same-sound}
 use Rattle.ack.specs.Ack.{wordIn, ackOf}
-use Rattle.ack.specs.Awaited.{payloadIn}
+use Rattle.span.specs.Span.{payloadIn}
 use Rattle.ack.specs.declared.Ack.{Ack}
 use Rattle.ack.proofs.Reading.{checked-set}
-use Rattle.ack.proofs.Spans.{payload-inside}
-use Rattle.frame.specs.Frame.{family, announced, dataOf, isFamily, endsAs, thenBody, checksFor, startingAt}
+use Rattle.span.proofs.Spans.{payload-inside}
+use Rattle.envelope.specs.Envelope.{family, announced, dataOf, isFamily, endsAs}
+use Rattle.frame.specs.Frame.{thenBody, checksFor, startingAt}
 use Rattle.frame.specs.Frame.{frameIf, frameAs, checkedFrame, parsedFrame}
 use Rattle.frame.specs.declared.Frame.{Frame}
 use Rattle.frame.proofs.Bodies.{ack-passes}
-use Rattle.frame.proofs.Framed.{framed-data, framed-length, checked-framed}
-use Rattle.wire.specs.Bytes.{Bytes}
+use Rattle.envelope.proofs.Framed.{framed-data, framed-length}
+use Rattle.frame.proofs.Answers.{checked-framed}
+use Rattle.number.specs.Bytes.{Bytes}
 use Rattle.writer.proofs.Framing.{checked-cut, cut-framed}
 use Rattle.ack_writer.specs.Read.{acknowledged}
 

@@ -14,10 +14,10 @@ use mathlib.Core.List.{List}
 use mathlib.Core.Bool.{Bool, true}
 use Prim.Native.Nat.{ℕ, _≤_}
 use lib.ListN.{length, take}
-use Rattle.wire.specs.Bytes.{Bytes}
+use Rattle.number.specs.Bytes.{Bytes}
 use Rattle.refusal.specs.declared.Outcome.the-variants.{Ok}
 use Rattle.report.specs.Report.{noReport}
-use Rattle.ack.specs.Awaited.{payloadIn}
+use Rattle.span.specs.Span.{payloadIn}
 use Rattle.ack.specs.declared.Ack.{Ack}
 use Rattle.frame.specs.Frame.{parsedFrame}
 use Rattle.frame.specs.declared.FrameKind.the-variants as Is

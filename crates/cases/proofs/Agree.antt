@@ -1,7 +1,7 @@
 -- Two functions that give one list over a list give one value at each of its elements: one computation serves a table.
 use mathlib.Core.Path.{_≡_}
 use mathlib.Core.List.{List, [], _∷_, _++_, map}
-use Rattle.framing.specs.Bytes.{Every}
+use Rattle.engine.specs.Bytes.{Every}
 
 module _ {A B : Type 0} (f g : A → B) where
   pub agree : (l : List A) → map f l ≡ map g l → Every (λ a. f a ≡ g a) l

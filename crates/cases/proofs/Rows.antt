@@ -3,25 +3,25 @@
 use mathlib.Core.Path.{_≡_, refl, subst, ap}
 use mathlib.Core.List.{List, _++_, map}
 use lib.ListN.{length}
-use Rattle.wire.specs.Counter.{bumped}
-use Rattle.wire.specs.Equal.{sameBytes}
+use Rattle.number.specs.Counter.{bumped}
+use Rattle.byte_string.specs.Equal.{sameBytes}
 use Rattle.wire.specs.Family.{headerOf, framed}
-use Rattle.wire.specs.Number.{le16At}
+use Rattle.number.specs.Number.{le16At}
 use Rattle.target_state.specs.State.{stateOf}
 use Rattle.report.specs.Report.{reportOf}
 use Rattle.ack.specs.Ack.{ackOf}
 use Rattle.frame.specs.Frame.{decoded, checkedFrame}
-use Rattle.framing.specs.Bytes.{Every}
 use Rattle.framing.specs.Framing.{Piece}
 use Rattle.framing.specs.Division.{Division}
 use Rattle.framing.specs.Scanner.{pieces}
-use Rattle.framing.specs.Calls.{Did, feeds}
 use Rattle.framing.proofs.Scanner.{division-exists}
+use Rattle.engine.specs.Bytes.{Every}
+use Rattle.engine.specs.Calls.{Did, feeds}
 use Rattle.stream.specs.Scan.{reads, opens, wholes}
 use Rattle.stream.specs.Link.{link}
 use Rattle.stream.specs.Deliver.{Answer, decodes}
 use Rattle.scan.specs.Scan.{inOrder, settled, unfinishedBy}
-use Rattle.scan.specs.Start.{abandoned, startOf}
+use Rattle.stats.specs.Start.{abandoned, startOf}
 use Rattle.step.specs.Step.{stepOf, stored}
 use Rattle.step.specs.Slice.{runOf}
 use Rattle.parser.specs.Feed.{fresh, feedOf, feedSliceOf, unfinishedOf}
@@ -30,8 +30,8 @@ use Rattle.parser.specs.Claims.{did, left}
 use Rattle.writer.specs.Written.{answerOf, bufferAfter, written}
 use Rattle.command.specs.Command.{commandFrame, unsupported}
 use Rattle.request.specs.Request.{dataWith}
-use Rattle.command.specs.Read.{commandOf, guess, guessIn, ifEncodesTo}
-use Rattle.request.specs.Asking.{asks, isFrame, numberIn}
+use Rattle.command_reader.specs.Read.{commandOf, guess, guessIn, ifEncodesTo}
+use Rattle.asking.specs.Asking.{asks, isFrame, numberIn}
 use Rattle.cases.specs.Row.{Numbers, addedUp, countedBy, Stream, StreamHolds, Run, RunHolds}
 use Rattle.cases.specs.Row.{CommandRow, encodes, parses, CommandHolds, stream, run, command, Holds}
 use Rattle.cases.specs.Streams.{streams}

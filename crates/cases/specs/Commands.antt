@@ -13,7 +13,7 @@ use Rattle.writer.specs.declared.WriteResult.the-variants as Write
 use Rattle.setting.specs.declared.Gate.the-variants.{Index}
 use Rattle.command.specs.declared.Command.{Command}
 use Rattle.command.specs.declared.Command.the-variants.{EnableConfig, EndConfig, SetSensitivity}
-use Rattle.command.specs.declared.CommandResult.the-variants as Read
+use Rattle.command_reader.specs.declared.CommandResult.the-variants as Read
 use Rattle.cases.specs.Row.{CommandRow, encodes, parses}
 
 abbrev pub enableFrame : List ℕ

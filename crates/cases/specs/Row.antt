@@ -7,7 +7,7 @@
 --   Run           calls on a parser, what they do, and the numbers that they leave
 --   RunHolds      the row is so by the parser
 --   CommandRow    a command written, its answer and the buffer before and after; or bytes read, and the answer
---   CommandHolds  the row is so by what the contracts of `Command::encode` and `Command::parse` cite
+--   CommandHolds  the row is so by what the contracts of `Command::encode` and `read_command` cite
 --   Row, Holds    a row of any of these kinds, and when it holds
 use mathlib.Core.Path.{_≡_}
 use mathlib.Core.List.{List}
@@ -16,7 +16,7 @@ use lib.ListN.{length}
 use Rattle.framing.specs.Framing.{Piece}
 use Rattle.framing.specs.Division.{Division}
 use Rattle.framing.specs.Tally.{sum, waiting, total}
-use Rattle.framing.specs.Calls.{Call, Did, feeds}
+use Rattle.engine.specs.Calls.{Call, Did, feeds}
 use Rattle.stream.specs.Link.{link}
 use Rattle.stream.specs.Deliver.{Answer, frames, resyncs, dropped, malformed}
 use Rattle.stream.specs.Decoding.{counting}
@@ -26,9 +26,9 @@ use Rattle.parser.specs.declared.Parser.{Parser}
 use Rattle.writer.specs.Written.{answerOf, bufferAfter}
 use Rattle.writer.specs.declared.WriteResult.{WriteResult}
 use Rattle.command.specs.Command.{commandFrame, unsupported}
-use Rattle.command.specs.Read.{commandOf}
+use Rattle.command_reader.specs.Read.{commandOf}
 use Rattle.command.specs.declared.Command.{Command}
-use Rattle.command.specs.declared.CommandResult.{CommandResult}
+use Rattle.command_reader.specs.declared.CommandResult.{CommandResult}
 
 pub record Numbers : Type 0 where
   pub frames : ℕ

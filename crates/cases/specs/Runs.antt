@@ -15,7 +15,7 @@ use Rattle.target_state.specs.declared.TargetState.the-variants.{Both}
 use Rattle.frame.specs.Frame.{noAck}
 use Rattle.frame.specs.declared.FrameKind.the-variants as Is
 use Rattle.frame.specs.declared.Frame.{Frame}
-use Rattle.framing.specs.Calls.{Call, feed, slice, reset, Did, fed, sliced, cleared}
+use Rattle.engine.specs.Calls.{Call, feed, slice, reset, Did, fed, sliced, cleared}
 use Rattle.stream.specs.Deliver.{Answer, nothing}
 use Rattle.scan.specs.Scan.{hunting}
 use Rattle.parser.specs.Feed.{fresh}

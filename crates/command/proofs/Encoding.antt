@@ -13,24 +13,20 @@ use Rattle.writer.specs.declared.WriteResult.the-variants.{Err}
 use Rattle.writer.proofs.Writers.{Wrote, wrote-refused, shown}
 use Rattle.command.specs.Command.{wordOf, valueOf, commandFrame, encodable, unsupported}
 use Rattle.request.specs.Request.{frameWith}
-use Rattle.command.specs.Read.{ReadBack}
 use Rattle.command.specs.declared.Command.{Command}
 use Rattle.request.specs.declared.Value.{Value}
-use Rattle.command.proofs.Answers.{read-back}
 
 module _ (c : Command) (out : List ℕ) where
-  -- What the encoder has to show: its answer, its buffer, the causes, and that the frame reads back.
+  -- What the encoder has to show: its answer, its buffer and the causes.
   abbrev pub Encoded : WriteResult → List ℕ → Type 0
   Encoded r left =
       (r ≡ answerOf (unsupported c) (commandFrame c) (length out))
       × ((left ≡ bufferAfter (unsupported c) (commandFrame c) out)
-      × (WriteCauses 2 (encodable c ≡ false) (commandFrame c) (length out) r × ReadBack c r left))
+      × WriteCauses 2 (encodable c ≡ false) (commandFrame c) (length out) r)
 
   encoded : (left : List ℕ) {r : WriteResult} → Wrote (unsupported c) (commandFrame c) out r left
       → Encoded r left
-  encoded left h =
-      let e = shown Unsupported (λ z. omega arith) (λ z. omega arith) (encodable c) (commandFrame c) out left h in
-      (e .0, (e .1 .0, (e .1 .1, read-back c out left _ h)))
+  encoded left h = shown Unsupported (λ z. omega arith) (λ z. omega arith) (encodable c) (commandFrame c) out left h
 
   pub encode-refused : encodable c ≡ false → Encoded (Err Unsupported) out
   encode-refused e = encoded out (rw e (wrote-refused (commandFrame c) out Unsupported))

@@ -1,31 +1,21 @@
-// Commands to the module: their words, values and frames, the encoder, and the reader of command frames.
+// Commands to the module: their words, values and frames, and the encoder.
 //
-// What the module takes is said once, in `Command::encodable`: the encoder refuses any other value, and the reader
-// knows no other frame.
+// What the module takes is said once, in `Command::encodable`: the encoder refuses any other value.
 use refusal::Error;
 use request::Value;
-use request::asks;
 use request::put_value;
 use setting::Baud;
 use setting::Gate;
 use setting::are_sensitivities;
 use setting::may_be_farthest;
 use wire::FRAMING;
-use wire::same;
 use wire::word;
 use writer::WriteResult;
-
-mod reader;
-
 ghost use mathlib.Core.Path.{_≡_};
 ghost use mathlib.Core.Bool.{false};
 ghost use lib.ListN.{length};
 ghost use Rattle.writer.specs.Written.{answerOf, bufferAfter, WriteCauses};
-ghost use Rattle.command.specs.Read.{commandOf, ifEncodesTo, ReadCauses, ReadBack, WrittenAgain};
 ghost use Rattle.command.specs.Command.{wordOf, valueOf, commandFrame, encodable, unsupported};
-
-// Longest frame of a command.
-const MAX_COMMAND: usize = 30;
 
 // A command to the module. Every one but `EnableConfig` is sent between `EnableConfig` and `EndConfig`.
 pub enum Command {
@@ -55,12 +45,6 @@ pub enum Command {
     // On or off; takes effect after a restart.
     Bluetooth(bool),
     ReadMac,
-}
-
-// What the reader answers: the command, or the refusal.
-pub enum CommandResult {
-    Ok(Command),
-    Err(Error),
 }
 
 impl Command {
@@ -172,39 +156,10 @@ impl Command {
             (now (out .entry)) ⌝ }
         ensures causes { λ r. ⌜ WriteCauses 2 (encodable self ≡ false) (commandFrame self)
             (length (now (out .entry))) r ⌝ }
-        ensures back { λ r. ⌜ ReadBack self r (now (out .exit)) ⌝ }
     {
         if !self.encodable() {
             return WriteResult::Err(Error::Unsupported);
         }
         put_value(out, self.word(), self.value())
-    }
-
-    // Reads a command frame: the command that encodes to the bytes. Refuses with 1 what is not one whole frame of the
-    // command family with a word whose ACK bit is clear, with 5 such a frame to whose bytes no command encodes.
-    pub fn parse(bytes: &[u8]) -> CommandResult
-        ensures read { λ r. ⌜ r ≡ commandOf (now (bytes .entry)) ⌝ }
-        ensures causes { λ r. ⌜ ReadCauses (now (bytes .entry)) r ⌝ }
-        ensures again { λ r. ⌜ WrittenAgain (now (bytes .entry)) r ⌝ }
-    {
-        if !asks(bytes) {
-            return CommandResult::Err(Error::InvalidFormat);
-        }
-        reader::guess_in(bytes).if_encodes_to(bytes)
-    }
-
-    // The command, if it encodes to the bytes.
-    fn if_encodes_to(self, bytes: &[u8]) -> CommandResult
-        ensures read { λ r. ⌜ r ≡ ifEncodesTo (now (bytes .entry)) self ⌝ }
-    {
-        let mut frame: [u8; MAX_COMMAND] = [0; MAX_COMMAND];
-        let WriteResult::Ok(n) = self.encode(&mut frame) else {
-            return CommandResult::Err(Error::UnknownCommand);
-        };
-        if same(&frame[..n], bytes) {
-            CommandResult::Ok(self)
-        } else {
-            CommandResult::Err(Error::UnknownCommand)
-        }
     }
 }

@@ -3,9 +3,9 @@ use mathlib.Core.Path.{_≡_, sym, ap, _∙_}
 use mathlib.Core.List.{List, _++_, map-append}
 use Prim.Native.Nat.{ℕ}
 use lib.ListN.{take, drop, take-append-drop}
-use Rattle.framing.specs.Calls.{feed, feeds}
-use Rattle.framing.specs.Engine.{call}
-use Rattle.framing.proofs.Runs.{final-append}
+use Rattle.engine.specs.Calls.{feed, feeds}
+use Rattle.engine.specs.Engine.{call}
+use Rattle.engine.proofs.Runs.{final-append}
 use Rattle.parser.specs.Engine.{engine}
 use Rattle.parser.specs.Claims.{left}
 use Rattle.parser.specs.declared.Parser.{Parser}

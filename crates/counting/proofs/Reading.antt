@@ -5,8 +5,8 @@ use mathlib.Core.List.{List, [], _∷_, _++_}
 use Prim.Native.Nat.{ℕ}
 use lib.Dec.{ltb}
 use lib.ListN.{length, take}
-use Rattle.framing.specs.Bytes.{Bytes}
-use Rattle.framing.specs.Calls.{feeds}
+use Rattle.engine.specs.Bytes.{Bytes}
+use Rattle.engine.specs.Calls.{feeds}
 use Rattle.parser.specs.Claims.{left}
 use Rattle.parser.specs.declared.Parser.{Parser}
 use Rattle.counting.specs.Reached.{Reached, Turned}

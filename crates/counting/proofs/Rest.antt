@@ -6,8 +6,8 @@ use Prim.Native.Nat.{ℕ, _+_, _≤_, _<_}
 use native.Mathlib.Omega.{arith}
 use lib.ListN.{length, getD, take, drop, length-drop, drop-of-length-le}
 use lib.Seq.{drop-drop, getD-drop}
-use Rattle.framing.specs.Calls.{feeds}
-use Rattle.framing.proofs.Bytes.{bytes-at}
+use Rattle.engine.specs.Calls.{feeds}
+use Rattle.engine.proofs.Bytes.{bytes-at}
 use Rattle.parser.specs.Feed.{feedSliceOf}
 use Rattle.parser.specs.Claims.{left}
 use Rattle.parser.specs.declared.Parser.{Parser}

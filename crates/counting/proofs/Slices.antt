@@ -8,9 +8,9 @@ use mathlib.Core.Bool.{true}
 use Prim.Native.Nat.{ℕ, suc, _≤_, _<_}
 use native.Mathlib.Omega.{arith}
 use lib.ListN.{length, take}
-use Rattle.framing.specs.Bytes.{Bytes}
-use Rattle.framing.specs.Calls.{feeds}
-use Rattle.framing.specs.Engine.{final}
+use Rattle.engine.specs.Bytes.{Bytes}
+use Rattle.engine.specs.Calls.{feeds}
+use Rattle.engine.specs.Engine.{final}
 use Rattle.scan.specs.Scan.{inOrder, settled}
 use Rattle.step.specs.Step.{stepOf, stored}
 use Rattle.step.specs.Slice.{Run, runAt, thenRun, runOf}
@@ -18,11 +18,11 @@ use Rattle.feeding.specs.Moved.{emitted, bufOf, movedOf, sliceBufOf, sliceMoved
 use Rattle.parser.specs.Feed.{put, feedOf, feedSliceOf}
 use Rattle.parser.specs.Engine.{engine}
 use Rattle.scan.specs.declared.Scan.{Scan}
-use Rattle.scan.specs.declared.Stats.{Stats}
+use Rattle.stats.specs.declared.Stats.{Stats}
 use Rattle.parser.specs.declared.Parser.{Parser}
-use Rattle.scan.specs.declared.Ended.{Ended}
-use Rattle.scan.specs.declared.Ended.the-variants.{Frame, Nothing}
-use Rattle.scan.specs.declared.Stepped.{Stepped}
+use Rattle.stats.specs.declared.Ended.{Ended}
+use Rattle.stats.specs.declared.Ended.the-variants.{Frame, Nothing}
+use Rattle.stats.specs.declared.Stepped.{Stepped}
 use Rattle.step.proofs.Onwards.{step-order}
 use Rattle.scan.proofs.Orders.{settled-order, settled-same}
 

@@ -7,8 +7,8 @@ use mathlib.Core.Bool.{Bool}
 use Prim.Native.Nat.{ℕ}
 use lib.Dec.{ltb}
 use lib.ListN.{length}
-use Rattle.framing.specs.Bytes.{Bytes}
-use Rattle.framing.specs.Calls.{feeds}
+use Rattle.engine.specs.Bytes.{Bytes}
+use Rattle.engine.specs.Calls.{feeds}
 use Rattle.parser.specs.Claims.{left}
 use Rattle.parser.specs.declared.Parser.{Parser}
 

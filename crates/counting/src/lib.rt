@@ -1,8 +1,8 @@
 // Counting what a stream holds: bytes of any number fed to a parser, and its numbers printed on one line.
 use parser::Parser;
 ghost use mathlib.Core.Path.{_≡_};
-ghost use Rattle.framing.specs.Bytes.{Bytes};
-ghost use Rattle.framing.specs.Calls.{feeds};
+ghost use Rattle.engine.specs.Bytes.{Bytes};
+ghost use Rattle.engine.specs.Calls.{feeds};
 ghost use Rattle.parser.specs.Claims.{left};
 ghost use Rattle.parser.specs.Feed.{fresh};
 ghost use Rattle.counting.specs.Counts.{countsOf};

@@ -7,6 +7,7 @@ pub mod Param
 -- The code of a cursor's methods, its walk, their contracts, and that they meet them.
 pub mod Shape
 pub mod Callees
+pub mod Ending
 pub mod Thin
 pub mod Contracts
 pub mod Handing

@@ -8,7 +8,7 @@ use lib.Dec.{leb}
 use lib.ListN.{length, length-append, length-drop}
 use lib.Seq.{length-take-le}
 use borrow.Author.Tests.{leb-true}
-use Rattle.wire.specs.Prefix.{over}
+use Rattle.byte_string.specs.Prefix.{over}
 use Rattle.put.specs.Put.{placed, putIn}
 use Rattle.writer.specs.Written.{written}
 use Rattle.put.proofs.Puts.{placed-fits}

@@ -19,8 +19,8 @@ use base.Fml.{Lft, Share, fat, froom, flft}
 use prog.Wp.{Heap, Env, spotOf, Calls, Loops}
 use ghost.Atoms.{Atoms}
 use contract.Lifetimes.{toks}
-use types.Kit.{Given, Item, Post, Go, Step, step, Sq, mean, ‵, raw, given, runs, _$_, _∵_, !, qed}
-use types.Kit.{move, drop, use0, use1, learn, fsplit, fjoin, done}
+use types.Kit.{Given, Item, Post, Go, Step, step, Sq, mean, ‵, raw, given, runs, _⊛_, _$_, _∵_, !, qed}
+use types.Kit.{move, drop, use0, use1, split, learn, fsplit, fjoin, done}
 use types.Run.{Opds, init, forget, stop, fld, from, load, of-opd, assigns}
 use types.Part.{whole, sub, look-in}
 use sound.WpLaws.{FmC}
@@ -28,7 +28,7 @@ use denote.Laws.{Is, shows}
 use denote.Plain.{UInt, uint-makes}
 use denote.Builtin.{u8}
 use denote.Ref.{RefT, NamedLft}
-use denote.Slice.{sliceVal, MutSlice, ShrSlice}
+use denote.Slice.{sliceVal, MutSlice, ShrSlice, shr-slice-copy}
 use denote.Steps.{owned, peeks, nothing}
 use denote.Struct.Laws as LL
 use denote.Struct.Rest.{all-own, own-open}
@@ -90,7 +90,7 @@ module _ {M : Type 1} (𝓤 : URA M) (H : Heap 𝓤) (A : Atoms 𝓤) (W : Given
         owned ! (UInt N) (Is (UInt N)) (uint-makes 𝓤 H A W N) v _ (refl, fits) $ fjoin ! $ done !)
         C Λ fm f known E Γ post xs c t lₜ d lₔ at-c at-t at-d reads $ move ! (5 ∷ []) $ drop ! $ then)
 
-    -- what the bytes own goes to the method for good
+    -- what the bytes own is had twice, and one of the two goes to the method for good
     module _ (κᵇ : Lft) (qᵇ : Share) (s : RefT (List ℕ)) where
       abbrev u : Val
       u = sliceVal (s .ptr) (length (s .now))
@@ -98,16 +98,20 @@ module _ {M : Type 1} (𝓤 : URA M) (H : Heap 𝓤) (A : Atoms 𝓤) (W : Given
       abbrev Bytes : Item 𝓤
       Bytes = ‵ (ShrSlice (named 2) κᵇ u8 .own s (u ∷ []))
 
-      pub puts-bytes : Triple 𝓤 (C f) (Method (single bytes) 𝓤 H A) → Reads (u ∷ []) → {rest : Body}
-          → Step (Go {0}) W (Rooms (Has 𝓤 κ q l (moved h (s .now)) (‵ (flft κᵇ qᵇ) ∷ Γ))) (runs C Λ E rest post)
+      pub puts-bytes : Triple 𝓤 (C f) (Method (single bytes) 𝓤 H A)
+          → ((i j k n m : Item 𝓤) → Opds (Go {0}) W (i ∷ j ∷ k ∷ n ∷ m ∷ Γ) E xs (u ∷ [])) → {rest : Body}
+          → Step (Go {0}) W (Rooms (Has 𝓤 κ q l (moved h (s .now)) (‵ (flft κᵇ qᵇ) ∷ Bytes ∷ Γ))) (runs C Λ E rest post)
           (Rooms (Has 𝓤 κ q l h (‵ (flft κᵇ qᵇ) ∷ Bytes ∷ Γ))) (runs C Λ E (calling rest) post)
       puts-bytes known reads = step (λ then.
-          move ! (5 ∷ []) $ use1 W (raw (toks 𝓤 A 1 (κᵇ, tt) (qᵇ, tt)))
+          move ! (6 ∷ []) $
+          use1 W (Bytes ⊛ Bytes) (shr-slice-copy 𝓤 H A W (named 2) κᵇ u8 .twice s (u ∷ [])) $ split ! $
+          use1 W (raw (mean 𝓤 H A Bytes)) (id⊢ 𝓤 _) $ move ! (7 ∷ []) $
+          use1 W (raw (toks 𝓤 A 1 (κᵇ, tt) (qᵇ, tt)))
           (qed W (‵ (flft κᵇ qᵇ) ∷ []) ∵ nothing ! $ move ! (1 ∷ 0 ∷ []) $ done !) $
-          move ! (6 ∷ []) $ use1 W (raw (mean 𝓤 H A Bytes)) (id⊢ 𝓤 _) $ move ! (2 ∷ 3 ∷ 4 ∷ 5 ∷ 6 ∷ 1 ∷ 0 ∷ []) $
+          move ! (3 ∷ 4 ∷ 5 ∷ 6 ∷ 7 ∷ []) $
           calls-method (single bytes) 𝓤 H A W κ q (κᵇ, tt) (qᵇ, tt) l h (λ ν. (s, tt)) (s .now) (λ ν. refl) (u ∷ [])
           (λ ν. refl) (mean 𝓤 H A Bytes) (λ ν. qed W (Bytes ∷ []) ∵ nothing ! $ move ! (1 ∷ 0 ∷ []) $ fjoin ! $ done !)
-          C Λ fm f known E Γ post xs c t lₜ d lₔ at-c at-t at-d reads $
+          C Λ fm f known E (Bytes ∷ Γ) post xs c t lₜ d lₔ at-c at-t at-d (λ i j k n. reads i j k n Bytes) $
           move ! (5 ∷ []) $ use1 W (‵ (flft κᵇ qᵇ)) (fst∗ 𝓤 (A .lft κᵇ qᵇ) (emp 𝓤)) $
           move ! (1 ∷ 2 ∷ 3 ∷ 4 ∷ 5 ∷ 0 ∷ []) $ then)
 

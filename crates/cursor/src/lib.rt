@@ -12,7 +12,7 @@ use refusal::Error;
 use writer::WriteResult;
 ghost use mathlib.Core.Path.{_≡_};
 ghost use mathlib.Core.List.{_++_};
-ghost use Rattle.wire.specs.Number.{leBytes};
+ghost use Rattle.number.specs.Number.{leBytes};
 ghost use Rattle.cursor.specs.Held.{nextAt, toldBy, told, moved};
 
 // The caller's slice, the position of the next byte in it, and the bytes needed in all, which a refusal tells.

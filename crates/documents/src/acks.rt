@@ -1,16 +1,17 @@
 // Rows about acknowledgements. A row is a line with the refusal, the acknowledgement's fields, what `expect` of a word
 // refuses, and the reply that the payload holds.
+use crate::frames;
+use crate::published::PLAIN;
+use crate::text::Row;
 use crate::text::bytes;
-use crate::text::end;
+use crate::text::form;
 use crate::text::gates;
-use crate::text::hex;
-use crate::text::numbers;
+use crate::text::number;
 use crate::text::text;
 use ack::Ack;
 use ack::AckResult;
 use ack::SpanResult;
-use frame::Frame;
-use refusal::Error;
+use parameters::ParametersResult;
 use reply::EnableConfigResult;
 use reply::FirmwareVersionResult;
 use wire::word;
@@ -22,16 +23,16 @@ pub fn in_data(label: &[u8], data: &[u8], awaited: u16) {
         AckResult::Ok(ack) => {
             text(b": refusal 0");
             fields(ack, awaited);
+            text(b"\n");
         }
-        AckResult::Err(e) => refused(b": refusal", e),
+        AckResult::Err(e) => number(b": refusal %\n", e.number() as u64),
     }
-    end();
 }
 
 // An acknowledgement in a whole frame whose command awaits nothing more.
-pub fn plain(label: &[u8], frame: &[u8], awaited: u16) {
-    in_frame(label, frame, awaited);
-    end();
+pub fn plain(label: &[u8], frame: [u8; PLAIN], awaited: u16) {
+    in_frame(label, &frame, awaited);
+    text(b"\n");
 }
 
 // The acknowledgement of `EnableConfig`, with its reply; so with the three below.
@@ -39,25 +40,29 @@ pub fn enable_config(label: &[u8], frame: &[u8]) {
     let ack = in_frame(label, frame, word::ENABLE_CONFIG);
     match ack.enable_config(frame) {
         EnableConfigResult::Ok(c) => {
-            numbers(b", version", &[c.protocol_version as u64]);
-            numbers(b", buffer", &[c.buffer_size as u64]);
+            let version = c.protocol_version as u64;
+            let row = [version, c.buffer_size as u64, 0, 0, 0, 0, 0];
+            form(b", version %, buffer %\n", row);
         }
-        EnableConfigResult::Err(e) => refused(b", reply", e),
+        EnableConfigResult::Err(e) => refused(e.number()),
     }
-    end();
 }
 
 pub fn firmware_version(label: &[u8], frame: &[u8]) {
     let ack = in_frame(label, frame, word::READ_FIRMWARE);
     match ack.firmware_version(frame) {
         FirmwareVersionResult::Ok(v) => {
-            hex(b", type", 4, v.firmware_type as u64);
-            hex(b", major", 4, v.major as u64);
-            hex(b", minor", 8, v.minor as u64);
+            let kind = v.firmware_type as u64;
+            let row = [kind, v.major as u64, v.minor as u64, 0, 0, 0, 0];
+            form(b", type #, major #, minor @\n", row);
         }
-        FirmwareVersionResult::Err(e) => refused(b", reply", e),
+        FirmwareVersionResult::Err(e) => refused(e.number()),
     }
-    end();
+}
+
+// What a reply refuses.
+fn refused(refusal: u8) {
+    number(b", reply %\n", refusal as u64);
 }
 
 pub fn mac(label: &[u8], frame: &[u8]) {
@@ -66,56 +71,74 @@ pub fn mac(label: &[u8], frame: &[u8]) {
     let outcome = reply.outcome;
     let mac = reply.mac;
     let address = mac.0;
-    numbers(b", reply", &[outcome.number() as u64]);
-    bytes(b", address", &address);
-    end();
+    number(b", reply %, address", outcome.number() as u64);
+    bytes(&address);
+    text(b"\n");
 }
 
 pub fn parameters(label: &[u8], frame: &[u8]) {
     let ack = in_frame(label, frame, word::READ_PARAMETERS);
-    let reply = ack.parameters(frame);
-    let outcome = reply.outcome;
+    parameters_reply(ack.parameters(frame));
+}
+
+fn parameters_reply(reply: ParametersResult) {
     let p = reply.parameters;
     let moving = p.moving_sensitivity;
     let stationary = p.stationary_sensitivity;
-    numbers(b", reply", &[outcome.number() as u64]);
-    bytes(
-        b", farthest",
-        &[p.max_gate, p.max_moving_gate, p.max_stationary_gate],
-    );
-    gates(b", moving", &moving);
-    gates(b", stationary", &stationary);
-    numbers(b", seconds", &[p.no_one_secs as u64]);
-    end();
+    form(b", reply %, farthest ~ ~ ~, moving", farthest(reply));
+    gates(moving);
+    text(b", stationary");
+    gates(stationary);
+    number(b", seconds %\n", p.no_one_secs as u64);
+}
+
+// The refusal and the farthest gates.
+fn farthest(reply: ParametersResult) -> Row {
+    let outcome = reply.outcome;
+    let p = reply.parameters;
+    [
+        outcome.number() as u64,
+        p.max_gate as u64,
+        p.max_moving_gate as u64,
+        p.max_stationary_gate as u64,
+        0,
+        0,
+        0,
+    ]
 }
 
 // The front of a row about a whole frame, and the acknowledgement, whose payload stands in the frame's bytes.
-fn in_frame(label: &[u8], frame: &[u8], awaited: u16) -> Ack {
-    let read = Frame::parse(frame);
-    let outcome = read.outcome;
-    let frame = read.frame;
-    let kind = frame.kind;
+fn in_frame(label: &[u8], bytes: &[u8], awaited: u16) -> Ack {
+    let frame = frames::read(label, bytes);
     let ack = frame.ack;
-    text(label);
-    numbers(b": refusal", &[outcome.number() as u64]);
-    crate::kind(kind);
     fields(ack, awaited);
     ack
 }
 
 fn fields(ack: Ack, awaited: u16) {
-    let payload = ack.payload;
-    hex(b", word", 4, ack.word as u64);
-    numbers(b", ok", &[ack.ok as u64]);
-    hex(b", status", 4, ack.status as u64);
-    numbers(b", payload", &[payload.start as u64, payload.len as u64]);
-    hex(b", awaited", 4, awaited as u64);
-    match ack.expect(awaited) {
-        SpanResult::Ok(_) => text(b": 0"),
-        SpanResult::Err(e) => refused(b":", e),
-    }
+    form(
+        b", word #, ok %, status #, payload % %, awaited #: %",
+        row(ack, awaited),
+    );
 }
 
-fn refused(name: &[u8], error: Error) {
-    numbers(name, &[error.number() as u64]);
+// The fields, the awaited word, and what `expect` of it refuses.
+fn row(ack: Ack, awaited: u16) -> Row {
+    let payload = ack.payload;
+    [
+        ack.word as u64,
+        ack.ok as u64,
+        ack.status as u64,
+        payload.start as u64,
+        payload.len as u64,
+        awaited as u64,
+        refusal(ack.expect(awaited)),
+    ]
+}
+
+fn refusal(span: SpanResult) -> u64 {
+    match span {
+        SpanResult::Ok(_) => 0,
+        SpanResult::Err(e) => e.number() as u64,
+    }
 }

@@ -2,26 +2,17 @@
 // documents print, writes the commands that they print, and puts out a line for each. The file stdout beside src/ has
 // what the documents say of them, written by hand.
 use command::Command;
-use frame::FrameKind;
 use setting::Baud;
 use setting::Gate;
 use wire::word;
 
 mod acks;
+mod frames;
 mod published;
 mod reports;
 mod sent;
 mod text;
 mod tried;
-
-// What a whole frame holds.
-fn kind(kind: FrameKind) {
-    match kind {
-        FrameKind::None => text::text(b", no frame"),
-        FrameKind::Report => text::text(b", report"),
-        FrameKind::Ack => text::text(b", ack"),
-    }
-}
 
 // The rows of document 01's "Bytes to try" about readers.
 fn tried_rows() {
@@ -44,26 +35,26 @@ fn published_reports() {
 // The published acknowledgements of commands that configure, in the documents' order.
 fn published_settings() {
     acks::enable_config(b"EnableConfig", &published::ENABLE_CONFIG);
-    acks::plain(b"EndConfig", &published::END_CONFIG, word::END_CONFIG);
+    acks::plain(b"EndConfig", published::END_CONFIG, word::END_CONFIG);
     acks::plain(
         b"SetMaxGates",
-        &published::SET_MAX_GATES,
+        published::SET_MAX_GATES,
         word::SET_MAX_GATES,
     );
     acks::parameters(b"ReadParameters", &published::READ_PARAMETERS);
     acks::plain(
         b"EngineeringMode on",
-        &published::ENGINEERING_ON,
+        published::ENGINEERING_ON,
         word::ENGINEERING_ON,
     );
     acks::plain(
         b"EngineeringMode off",
-        &published::ENGINEERING_OFF,
+        published::ENGINEERING_OFF,
         word::ENGINEERING_OFF,
     );
     acks::plain(
         b"SetSensitivity",
-        &published::SET_SENSITIVITY,
+        published::SET_SENSITIVITY,
         word::SET_SENSITIVITY,
     );
 }
@@ -72,14 +63,14 @@ fn published_settings() {
 fn published_module() {
     acks::firmware_version(b"ReadFirmware", &published::READ_FIRMWARE);
     acks::firmware_version(b"ReadFirmware, LD2410C", &published::READ_FIRMWARE_C);
-    acks::plain(b"SetBaud", &published::SET_BAUD, word::SET_BAUD);
+    acks::plain(b"SetBaud", published::SET_BAUD, word::SET_BAUD);
     acks::plain(
         b"FactoryReset",
-        &published::FACTORY_RESET,
+        published::FACTORY_RESET,
         word::FACTORY_RESET,
     );
-    acks::plain(b"Restart", &published::RESTART, word::RESTART);
-    acks::plain(b"Bluetooth", &published::BLUETOOTH, word::BLUETOOTH);
+    acks::plain(b"Restart", published::RESTART, word::RESTART);
+    acks::plain(b"Bluetooth", published::BLUETOOTH, word::BLUETOOTH);
     acks::mac(b"ReadMac", &published::READ_MAC);
 }
 

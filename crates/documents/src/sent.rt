@@ -1,8 +1,7 @@
 // Rows about commands. A row is a line with the bytes written and the buffer that the encoder left, each of whose bytes
 // was EE before.
 use crate::text::bytes;
-use crate::text::end;
-use crate::text::numbers;
+use crate::text::number;
 use crate::text::text;
 use command::Command;
 use writer::WriteResult;
@@ -12,9 +11,9 @@ pub fn sent(label: &[u8], command: Command) {
     text(label);
     let mut out: [u8; 30] = [0xEE; 30];
     match command.encode(&mut out) {
-        WriteResult::Ok(n) => numbers(b", sent", &[n as u64]),
-        WriteResult::Err(e) => numbers(b", refused", &[e.number() as u64]),
+        WriteResult::Ok(n) => number(b", sent %:", n as u64),
+        WriteResult::Err(e) => number(b", refused %:", e.number() as u64),
     }
-    bytes(b":", &out);
-    end();
+    bytes(&out);
+    text(b"\n");
 }

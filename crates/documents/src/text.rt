@@ -1,50 +1,82 @@
-// The parts of a line on standard output: a name, then the numbers behind it, in the bases that the documents use.
+// The parts of a line on standard output, in the bases that the documents use.
 use libc::STDOUT_FILENO;
 use wire::GATES;
+ghost use Prim.Native.Nat.{_<_};
+
+// The numbers of a form, with zeros behind them.
+pub type Row = [u64; 7];
 
 // Writes bytes as they are.
 pub fn text(bytes: &[u8]) {
     io::write_all(STDOUT_FILENO, bytes);
 }
 
-// Ends a line.
-pub fn end() {
-    text(b"\n");
+// Writes the byte of a form, or the number in its place: `%` in decimal, `~`, `#` and `@` in hexadecimal with at least
+// two, four and eight digits. Answers whether it was the number.
+fn piece(byte: u8, number: u64) -> bool {
+    match byte {
+        b'%' => {
+            io::print_decimal(STDOUT_FILENO, number);
+            true
+        }
+        b'~' => hex(number, 2),
+        b'#' => hex(number, 4),
+        b'@' => hex(number, 8),
+        _ => {
+            text(&[byte]);
+            false
+        }
+    }
 }
 
-// A name and numbers in decimal.
-pub fn numbers(name: &[u8], values: &[u64]) {
-    text(name);
+fn hex(number: u64, width: usize) -> bool {
+    io::print_hex(STDOUT_FILENO, number, width);
+    true
+}
+
+// The place in a row behind this one, if its number is used; the first one behind the last.
+fn next(at: usize, used: bool) -> usize
+    requires inside { ⌜ at < 7 ⌝ }
+    ensures inside { λ r. ⌜ r < 7 ⌝ }
+{
+    if !used {
+        return at;
+    }
+    if at == 6 {
+        return 0;
+    }
+    at + 1
+}
+
+// Writes a form, with a number of the row for each mark in it.
+pub fn form(bytes: &[u8], row: Row) {
+    let mut at = 0;
     let mut i = 0;
-    while i < values.len() {
-        text(b" ");
-        io::print_decimal(STDOUT_FILENO, values[i]);
+    while i < bytes.len() {
+        at = next(at, piece(bytes[i], row[at]));
         i += 1;
     }
 }
 
-// A name and a number in hexadecimal, with as many digits as `width` at least.
-pub fn hex(name: &[u8], width: usize, value: u64) {
-    text(name);
-    text(b" ");
-    io::print_hex(STDOUT_FILENO, value, width);
+// A form with one number.
+pub fn number(bytes: &[u8], number: u64) {
+    form(bytes, [number, 0, 0, 0, 0, 0, 0]);
+}
+
+// Bytes in hexadecimal.
+pub fn bytes(values: &[u8]) {
+    let mut i = 0;
+    while i < values.len() {
+        number(b" ~", wide(values[i]));
+        i += 1;
+    }
 }
 
 fn wide(byte: u8) -> u64 {
     byte as u64
 }
 
-// A name and bytes in hexadecimal.
-pub fn bytes(name: &[u8], values: &[u8]) {
-    text(name);
-    let mut i = 0;
-    while i < values.len() {
-        hex(b"", 2, wide(values[i]));
-        i += 1;
-    }
-}
-
-// A name and a byte for each gate.
-pub fn gates(name: &[u8], values: &[u8; GATES]) {
-    bytes(name, values);
+// A byte for each gate.
+pub fn gates(values: [u8; GATES]) {
+    bytes(&values);
 }

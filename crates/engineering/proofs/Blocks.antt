@@ -1,82 +1,48 @@
 -- The engineering block: when it fits, and what it is read as.
-use mathlib.Core.Path.{_≡_, refl, ap, sym, _∙_}
+use mathlib.Core.Path.{_≡_, ap, sym, _∙_}
 use mathlib.Core.List.{List}
-use mathlib.Core.Bool.{Bool, true, false}
+use mathlib.Core.Bool.{true, false}
 use Prim.Native.Nat.{ℕ, _+_, _-_, _≤_, _<_}
 use native.Mathlib.Omega.{arith}
 use lib.ListN.{length, getD, take, drop}
 use borrow.Rule.Slice.PartAt.{part-to-end}
-use borrow.Author.Tests.{le-leb, leb-true, lt-ltb, le-ltb}
-use Rattle.wire.specs.Prefix.{padded}
-use Rattle.wire.specs.declared.MaybeU8.the-variants.{Some, None}
-use Rattle.wire.proofs.Equality.{both-true}
-use Rattle.engineering.specs.Block.{movingGates, stationaryGates, fits, extraCount, engineeringOf}
+use borrow.Author.Tests.{lt-ltb, le-ltb}
+use Rattle.byte_string.specs.Prefix.{padded}
+use Rattle.number.specs.declared.MaybeU8.the-variants.{Some, None}
+use Rattle.gates.specs.Gates.{fits, gatesAt}
+use Rattle.gates.specs.declared.Gates.{Gates}
+use Rattle.gates.specs.declared.MaybeGates.the-variants as MaybeGates
+use Rattle.gates.proofs.Counts.{gates-some, gates-none}
+use Rattle.engineering.specs.Block.{extraCount, engineeringOf}
 use Rattle.engineering.specs.Block.{checkedBlock, noBlock, extraSlice, extraAt}
 use Rattle.engineering.specs.declared.Engineering.{Engineering}
 use Rattle.engineering.specs.declared.CheckedEngineering.{CheckedEngineering}
-
--- What `fits` tests: the two counts are there, each is in range, and the energies are there.
-pub record Fits (b : List ℕ) : Type 0 where
-  pub counts : 2 ≤ length b
-  pub moving : movingGates b ≤ 9
-  pub stationary : stationaryGates b ≤ 9
-  pub energies : 2 + movingGates b + stationaryGates b ≤ length b
 
 -- The length of a part, from the places where it starts and ends.
 cancel : (i n : ℕ) → i + n - i ≡ n
 cancel i n = omega arith
 
 module _ (b : List ℕ) where
-  pub fits-complete : Fits b → fits b ≡ true
-  unfolding fits
-  fits-complete h =
-      rw (
-        le-leb 2 (length b) (h .counts),
-        le-leb (movingGates b) 9 (h .moving),
-        le-leb (stationaryGates b) 9 (h .stationary),
-        le-leb (2 + movingGates b + stationaryGates b) (length b) (h .energies),
-      )
-
-  pub fits-sound : fits b ≡ true → Fits b
-  unfolding fits
-  fits-sound e =
-      let x = both-true _ _ e in
-      let y = both-true _ _ (x .1) in
-      let z = both-true _ _ (y .1) in
-      record {
-        counts = leb-true 2 (length b) (x .0);
-        moving = leb-true (movingGates b) 9 (y .0);
-        stationary = leb-true (stationaryGates b) 9 (z .0);
-        energies = leb-true (2 + movingGates b + stationaryGates b) (length b) (z .1);
-      }
-
-  pub fits-not : (Fits b → ⊥) → fits b ≡ false
-  fits-not h = go (fits b) refl
-    where
-      go : (t : Bool) → fits b ≡ t → fits b ≡ false
-      go true e = absurd (h (fits-sound e))
-      go false e = e
-
   -- What is read where the block fits, and where it does not.
-  pub block-fits : Fits b → checkedBlock b ≡ record { fits = true; engineering = engineeringOf b }
+  block-fits : fits b ≡ true → checkedBlock b ≡ record { fits = true; engineering = engineeringOf b }
   unfolding checkedBlock
-  block-fits h = rw (fits-complete h)
+  block-fits h = rw h
 
-  pub block-unfit : (Fits b → ⊥) → checkedBlock b ≡ noBlock
+  pub block-unfit : gatesAt b ≡ MaybeGates.None → checkedBlock b ≡ noBlock
   unfolding checkedBlock
-  block-unfit h = rw (fits-not h)
+  block-unfit h = rw (gates-none b h)
 
-  -- The fields one by one, as they are read: x and y are the two bytes in front, p, q and r what is copied.
-  pub block-read : {x y : ℕ} {p q r : List ℕ} {n : ℕ} → Fits b → x ≡ getD b 0 0 → y ≡ getD b 1 0
-      → p ≡ padded 9 (take (2 + (x + 1) - 2) (drop 2 b))
-      → q ≡ padded 9 (take (2 + (x + 1) + (y + 1) - (2 + (x + 1))) (drop (2 + (x + 1)) b))
-      → r ≡ padded 8 (take (length b - (2 + (x + 1) + (y + 1))) (drop (2 + (x + 1) + (y + 1)) b))
-      → n ≡ extraCount (take (length b - (2 + (x + 1) + (y + 1))) (drop (2 + (x + 1) + (y + 1)) b))
+  -- The fields one by one, as they are read: g are the counts, p, q and r what is copied.
+  pub block-read : (g : Gates) {p q r : List ℕ} {n : ℕ} → gatesAt b ≡ MaybeGates.Some g
+      → p ≡ padded 9 (take (2 + g .moving - 2) (drop 2 b))
+      → q ≡ padded 9 (take (2 + g .moving + g .stationary - (2 + g .moving)) (drop (2 + g .moving) b))
+      → r ≡ padded 8 (take (length b - (2 + g .moving + g .stationary)) (drop (2 + g .moving + g .stationary) b))
+      → n ≡ extraCount (take (length b - (2 + g .moving + g .stationary)) (drop (2 + g .moving + g .stationary) b))
       → checkedBlock b ≡ record {
         fits = true;
         engineering = record {
-          «moving_gates» = x + 1;
-          «stationary_gates» = y + 1;
+          «moving_gates» = g .moving;
+          «stationary_gates» = g .stationary;
           «moving_energy» = p;
           «stationary_energy» = q;
           extra = r;
@@ -84,18 +50,17 @@ module _ (b : List ℕ) where
         };
       }
   unfolding engineeringOf
-  block-read {x} {y} h ex ey ep eq er en =
+  block-read g h ep eq er en =
       rw (
         ep,
         eq,
         er,
         en,
-        part-to-end b (2 + (x + 1) + (y + 1)),
-        cancel 2 (x + 1),
-        cancel (2 + (x + 1)) (y + 1),
-        ex,
-        ey,
-      ) (block-fits h)
+        part-to-end b (2 + g .moving + g .stationary),
+        cancel 2 (g .moving),
+        cancel (2 + g .moving) (g .stationary),
+        gates-some b g h .1,
+      ) (block-fits (gates-some b g h .0))
 
   -- What the reader's answer says of the block.
   pub read-fits : (k : CheckedEngineering) → k ≡ checkedBlock b → k .fits ≡ true

@@ -1,8 +1,6 @@
 -- The engineering block of a report: `max_moving_gate`, `max_stationary_gate` (each 0 to 8), that many plus one
 -- energies of each, then reserved bytes.
---   movingGates b, stationaryGates b   how many energies of each the block b announces
 --   reserved b             the bytes behind the energies
---   fits b                 the two counts are there and in range, and the energies are there
 --   extraMost              the most that `extra_len` counts
 --   extraCount s           how many reserved bytes s are, as far as it counts
 --   engineeringOf b        what a block that fits is read as
@@ -13,32 +11,21 @@
 --   extraSlice e           the reserved bytes that were kept, with their valid count, at most 8
 --   extraAt e i            reserved byte i, or none
 use mathlib.Core.List.{List}
-use mathlib.Core.Bool.{Bool, true, false, _&&_}
+use mathlib.Core.Bool.{Bool, true, false}
 use Prim.Native.Nat.{ℕ, _+_, min}
-use lib.Dec.{leb, ltb}
+use lib.Dec.{ltb}
 use lib.ListN.{length, getD, take, drop, replicate}
-use Rattle.wire.specs.Prefix.{padded}
-use Rattle.wire.specs.Number.{answered, ifThere}
-use Rattle.wire.specs.declared.MaybeU8.{MaybeU8}
-use Rattle.wire.specs.declared.MaybeU8.the-variants.{Some, None}
+use Rattle.gates.specs.Gates.{movingGates, stationaryGates, fits}
+use Rattle.byte_string.specs.Prefix.{padded}
+use Rattle.number.specs.Number.{answered, ifThere}
+use Rattle.number.specs.declared.MaybeU8.{MaybeU8}
+use Rattle.number.specs.declared.MaybeU8.the-variants.{Some, None}
 use Rattle.engineering.specs.declared.Engineering.{Engineering}
 use Rattle.engineering.specs.declared.ExtraSlice.{ExtraSlice}
 use Rattle.engineering.specs.declared.CheckedEngineering.{CheckedEngineering}
 
--- "that many plus one energies of each"
-abbrev pub movingGates : List ℕ → ℕ
-movingGates b = getD b 0 0 + 1
-
-abbrev pub stationaryGates : List ℕ → ℕ
-stationaryGates b = getD b 1 0 + 1
-
 abbrev pub reserved : List ℕ → List ℕ
 reserved b = drop (2 + movingGates b + stationaryGates b) b
-
--- "each 0 to 8", so at most nine energies
-unfoldable pub fits : List ℕ → Bool
-fits b = leb 2 (length b) && (leb (movingGates b) 9 && (leb (stationaryGates b) 9
-    && leb (2 + movingGates b + stationaryGates b) (length b)))
 
 -- "`extra_len` counts all of them and stops at 255"
 abbrev pub extraMost : ℕ

@@ -1,16 +1,18 @@
 // The engineering block of a report: energies by gate and reserved bytes, reading them, and the accessors.
 //
 // `Option<Engineering>` of the Rust is a flag beside the block, whose fields are all 0 where the flag is off.
+use byte_string::copy_prefix;
+use gates::Gates;
+use gates::MaybeGates;
+use number::MaybeU8;
+use number::least;
 use wire::GATES;
 use wire::GateSlice;
 use wire::MAX_EXTRA;
-use wire::MaybeU8;
-use wire::byte_at;
-use wire::copy_prefix;
 use wire::gate_array;
-use wire::least;
 ghost use mathlib.Core.Path.{_≡_};
-ghost use Rattle.wire.specs.Prefix.{padded, gateSlice};
+ghost use Rattle.byte_string.specs.Prefix.{padded};
+ghost use Rattle.wire.specs.Gate.{gateSlice};
 ghost use Rattle.engineering.specs.Block.{extraCount, checkedBlock, noBlock, noEngineering, extraSlice, extraAt};
 
 // The most that `extra_len` counts.
@@ -101,31 +103,17 @@ impl Engineering {
     pub fn parse(block: &[u8]) -> CheckedEngineering
         ensures checked { λ r. ⌜ r ≡ checkedBlock (now (block .entry)) ⌝ }
     {
-        let MaybeU8::Some(max_moving_gate) = byte_at(block, 0) else {
+        let MaybeGates::Some(gates) = Gates::read(block) else {
             return no_block();
         };
-        let MaybeU8::Some(max_stationary_gate) = byte_at(block, 1) else {
-            return no_block();
-        };
-        let moving_gates = max_moving_gate as usize + 1;
-        let stationary_gates = max_stationary_gate as usize + 1;
-        if moving_gates > GATES {
-            return no_block();
-        }
-        if stationary_gates > GATES {
-            return no_block();
-        }
-        let moving_end = 2 + moving_gates;
-        let stationary_end = moving_end + stationary_gates;
-        if block.len() < stationary_end {
-            return no_block();
-        }
+        let moving_end = 2 + gates.moving as usize;
+        let stationary_end = moving_end + gates.stationary as usize;
         let reserved = &block[stationary_end..];
         CheckedEngineering {
             fits: true,
             engineering: Engineering {
-                moving_gates: max_moving_gate + 1,
-                stationary_gates: max_stationary_gate + 1,
+                moving_gates: gates.moving,
+                stationary_gates: gates.stationary,
                 moving_energy: gate_array(&block[2..moving_end]),
                 stationary_energy: gate_array(&block[moving_end..stationary_end]),
                 extra: extra_array(reserved),

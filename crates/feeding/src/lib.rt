@@ -1,20 +1,20 @@
 // Bytes fed into a buffer that is lent: the scan and the counters go on, and a frame that ended is decoded and counted.
 use frame::Frame;
 use frame::FrameKind;
-use scan::Ended;
+use number::least;
+use run::run_at;
+use run::step_at;
 use scan::Scan;
-use scan::Stats;
-use step::run_at;
-use step::step_at;
+use stats::Ended;
+use stats::Stats;
 use wire::Kind;
 use wire::MAX_FRAME;
-use wire::least;
 ghost use mathlib.Core.Path.{_≡_};
 ghost use lib.ListN.{take};
 ghost use Rattle.frame.specs.Frame.{decoded};
-ghost use Rattle.stream.specs.Link.{linkMost};
+ghost use Rattle.limit.specs.Length.{linkMost};
 ghost use Rattle.stream.specs.Deliver.{isFrame};
-ghost use Rattle.scan.specs.Start.{counted};
+ghost use Rattle.stats.specs.Start.{counted};
 ghost use Rattle.feeding.specs.Moved.{bufOf, movedOf, sliceBufOf, sliceMovedOf};
 
 // What a byte fed leaves, beside the buffer, and the frame that it completed, if any.
@@ -38,7 +38,7 @@ pub struct MovedSlice {
 }
 
 // Decodes the frame that ended: its data stand at the front of the buffer.
-pub fn emit(buf: &[u8; MAX_FRAME], kind: Kind, len: usize) -> Frame
+fn emit(buf: &[u8; MAX_FRAME], kind: Kind, len: usize) -> Frame
     ensures emitted { λ r. ⌜ r ≡ decoded 4 kind (take len (now (buf .entry))) .frame ⌝ }
 {
     let all: &[u8] = buf;
@@ -48,7 +48,7 @@ pub fn emit(buf: &[u8; MAX_FRAME], kind: Kind, len: usize) -> Frame
 }
 
 // Counts the frame that ended: one that does not decode is answered with no frame.
-pub fn tally(stats: Stats, frame: Frame) -> Stats
+fn tally(stats: Stats, frame: Frame) -> Stats
     ensures counted { λ r. ⌜ r ≡ counted (isFrame (frame .kind)) stats ⌝ }
 {
     let kind = frame.kind;

@@ -1,23 +1,22 @@
--- The reader's answer by the checks of the framing, one after another.
-use mathlib.Core.Path.{_≡_, refl, ap}
-use mathlib.Core.List.{List, [], _∷_}
-use mathlib.Core.Bool.{true, false}
-use Prim.Native.Nat.{ℕ, _+_, _≤_, _<_}
+-- The reader's answer by its checks: those of the envelope, then the body's.
+use mathlib.Core.Path.{_≡_, refl, ap, _∙_}
+use mathlib.Core.List.{List, [], _∷_, _++_}
+use mathlib.Core.Bool.{Bool, true, false}
+use Prim.Native.Nat.{ℕ, _+_, _<_}
 use native.Mathlib.Omega.{arith}
-use lib.ListN.{length, take, drop, length-take}
-use borrow.Author.Tests.{le-leb, lt-leb}
-use Rattle.wire.specs.Equal.{sameBytes}
-use Rattle.wire.specs.Family.{tail}
-use Rattle.wire.proofs.Families.{header-sound, header-length}
+use lib.ListN.{length}
 use Rattle.refusal.specs.Check.{Checks, orFailed, firstFailed, Causes}
-use Rattle.refusal.proofs.Checks.{causes}
-use Rattle.wire.specs.declared.Kind.{Kind}
-use Rattle.refusal.specs.declared.Check.the-variants.{F1, F2, F3, F4}
+use Rattle.refusal.proofs.Checks.{causes, failed-before, passed-before}
+use Rattle.refusal.specs.declared.Check.{Check}
 use Rattle.refusal.specs.declared.MaybeCheck.{MaybeCheck}
 use Rattle.refusal.specs.declared.MaybeCheck.the-variants as Maybe
-use Rattle.wire.specs.declared.MaybeKind.{MaybeKind}
-use Rattle.wire.specs.declared.MaybeKind.the-variants as Found
-use Rattle.frame.specs.Frame.{family, announced, dataOf, bodyChecks, onData, checksFor}
+use Rattle.wire.specs.Family.{framed}
+use Rattle.wire.specs.declared.Kind.{Kind}
+use Rattle.envelope.specs.Envelope.{family, dataOf, frameChecks, envelope}
+use Rattle.envelope.specs.declared.Envelope.the-variants.{Failed, Data}
+use Rattle.envelope.proofs.Opened.{failed-first, opened-data}
+use Rattle.envelope.proofs.Framed.{framed-dataOf, opened-framed}
+use Rattle.frame.specs.Frame.{bodyChecks, onData, thenBody, checksFor}
 use Rattle.frame.specs.Frame.{failingFrame, frameIf, decoded, frameAs, checkedFrame, parsedFrame}
 use Rattle.frame.specs.declared.Frame.{Frame}
 
@@ -27,44 +26,25 @@ on-data [] s = refl
 on-data (x ∷ cs) s = ap (λ o. orFailed (x .1 (dataOf s)) (x .0) o) (on-data cs s)
 
 module _ (s : List ℕ) where
-  -- Fewer bytes than a header are none.
-  none-of : (o : MaybeKind) → family s ≡ o → length s < 4 → family s ≡ Found.None
-  none-of (Found.Some k) e l =
-      absurd (omega (arith, header-length k, ap length (header-sound (take 4 s) k e), length-take 4 s))
-  none-of Found.None e l = e
-
-  pub short-family : length s < 4 → family s ≡ Found.None
-  short-family l = none-of (family s) refl l
-
-  pub fails-F1 : family s ≡ Found.None → checkedFrame s ≡ failingFrame F1
+  pub fails-framing : (c : Check) → envelope s ≡ Failed c → checkedFrame s ≡ failingFrame c
   unfolding checkedFrame
-  fails-F1 e = rw e
+  fails-framing c e = rw (failed-before s (thenBody (family s)) frameChecks c (failed-first s c e))
 
-  module _ (k : Kind) (e : family s ≡ Found.Some k) where
-    pub fails-F2 : length s < 6 → checkedFrame s ≡ failingFrame F2
-    unfolding checkedFrame
-    fails-F2 l = rw (e, lt-leb 6 (length s) l)
+  pub passes-framing : (k : Kind) (i : ℕ) → envelope s ≡ Data k i → checkedFrame s ≡ decoded 10 k (dataOf s)
+  unfolding checkedFrame decoded
+  passes-framing k i e =
+      let h = opened-data s k i e in
+      rw (
+        passed-before s (thenBody (family s)) frameChecks (h .passed),
+        h .announces,
+        on-data (bodyChecks k) s,
+      )
 
-    module _ (six : 6 ≤ length s) where
-      pub fails-F3 : length s < 6 + announced s → checkedFrame s ≡ failingFrame F3
-      unfolding checkedFrame
-      fails-F3 l = rw (e, le-leb 6 (length s) six, lt-leb (6 + announced s) (length s) l)
-
-      module _ (all : 6 + announced s ≤ length s) where
-        pub fails-F4 : sameBytes (drop (6 + announced s) s) (tail k) ≡ false → checkedFrame s ≡ failingFrame F4
-        unfolding checkedFrame
-        fails-F4 t = rw (e, le-leb 6 (length s) six, le-leb (6 + announced s) (length s) all, t)
-
-        pub passes-framing : sameBytes (drop (6 + announced s) s) (tail k) ≡ true
-            → checkedFrame s ≡ decoded 10 k (dataOf s)
-        unfolding checkedFrame decoded
-        passes-framing t = rw (
-          e,
-          le-leb 6 (length s) six,
-          le-leb (6 + announced s) (length s) all,
-          t,
-          on-data (bodyChecks k) s,
-        )
+-- What is framed is read as its data are.
+pub checked-framed : (k : Kind) (d : List ℕ) → length d < 65536 → checkedFrame (framed k d) ≡ decoded 10 k d
+checked-framed k d small =
+    passes-framing (framed k d) k (6 + length d) (opened-framed k d small)
+    ∙ ap (decoded 10 k) (framed-dataOf k d small)
 
 -- The check that an answer names, and the causes of each number.
 as-failed : (o : MaybeCheck) (f : Frame) → frameIf o f .failed ≡ o

@@ -1,9 +1,4 @@
--- Whole frames: "F1 header is F4 F3 F2 F1 (report) or FD FC FB FA (command); F2 two length bytes; F3 that many data
--- bytes, 0 to 65,535; F4 the rest is exactly the tail. Then the body's checks."
---   family s          the family that the header of s announces, if it is one
---   announced s       the length that s announces
---   dataOf s          that many bytes behind the length
---   f1 .. f4          the checks, and frameChecks, F1 to F4 in this order
+-- Whole frames: F1 to F4 of the envelope. "Then the body's checks."
 --   bodyChecks k      the checks of a body of the family k
 --   checksFor s       all that is checked of s, in order: F1 to F4, then the body's, on the data, for the family of s
 --   frameOf i k d     the frame of the family k that the data d are read as, an acknowledgement's payload from i on
@@ -13,22 +8,17 @@
 --   parsedFrame s     the same with the refusal that the check gives
 use mathlib.Core.List.{List, [], _∷_, _++_, map}
 use mathlib.Core.Bool.{Bool, true, false}
-use Prim.Native.Nat.{ℕ, _+_}
-use lib.Dec.{leb}
-use lib.ListN.{length, take, drop}
-use Rattle.wire.specs.Equal.{sameBytes}
-use Rattle.wire.specs.Number.{little}
-use Rattle.wire.specs.Family.{tail, headerOf}
+use Prim.Native.Nat.{ℕ}
+use Rattle.envelope.specs.Envelope.{family, dataOf, frameChecks}
 use Rattle.refusal.specs.Check.{Checks, firstFailed, outcomeOf}
 use Rattle.wire.specs.declared.Kind.{Kind}
 use Rattle.wire.specs.declared.Kind.the-variants as Family
 use Rattle.wire.specs.declared.MaybeKind.{MaybeKind}
 use Rattle.wire.specs.declared.MaybeKind.the-variants as Found
 use Rattle.refusal.specs.declared.Check.{Check}
-use Rattle.refusal.specs.declared.Check.the-variants.{F1, F2, F3, F4}
 use Rattle.refusal.specs.declared.MaybeCheck.{MaybeCheck}
 use Rattle.refusal.specs.declared.MaybeCheck.the-variants as Maybe
-use Rattle.report.specs.Check.{reportChecks}
+use Rattle.layout.specs.Check.{reportChecks}
 use Rattle.report.specs.Report.{reportOf, noReport}
 use Rattle.ack.specs.Ack.{ackChecks, ackOf}
 use Rattle.ack.specs.declared.Ack.{Ack}
@@ -36,38 +26,6 @@ use Rattle.frame.specs.declared.FrameKind.the-variants as Is
 use Rattle.frame.specs.declared.Frame.{Frame}
 use Rattle.frame.specs.declared.CheckedFrame.{CheckedFrame}
 use Rattle.frame.specs.declared.FrameResult.{FrameResult}
-
-abbrev pub family : List ℕ → MaybeKind
-family s = headerOf (take 4 s)
-
-abbrev pub announced : List ℕ → ℕ
-announced s = little (take 2 (drop 4 s))
-
-abbrev pub dataOf : List ℕ → List ℕ
-dataOf s = take (announced s) (drop 6 s)
-
-abbrev pub isFamily : MaybeKind → Bool
-isFamily (Found.Some k) = true
-isFamily Found.None = false
-
-abbrev pub endsAs : MaybeKind → List ℕ → Bool
-endsAs (Found.Some k) t = sameBytes t (tail k)
-endsAs Found.None t = false
-
-abbrev pub f1 : List ℕ → Bool
-f1 s = isFamily (family s)
-
-abbrev pub f2 : List ℕ → Bool
-f2 s = leb 6 (length s)
-
-abbrev pub f3 : List ℕ → Bool
-f3 s = leb (6 + announced s) (length s)
-
-abbrev pub f4 : List ℕ → Bool
-f4 s = endsAs (family s) (drop (6 + announced s) s)
-
-abbrev pub frameChecks : Checks
-frameChecks = (F1, f1) ∷ (F2, f2) ∷ (F3, f3) ∷ (F4, f4) ∷ []
 
 abbrev pub bodyChecks : Kind → Checks
 bodyChecks Family.Report = reportChecks

@@ -5,18 +5,15 @@
 // acknowledgement, of which the unused one is all 0, and the payload is a span of the bytes that were read.
 use ack::Ack;
 use ack::CheckedAck;
-use ack::Span;
+use envelope::DATA_START;
+use envelope::Envelope;
 use refusal::Check;
 use refusal::MaybeCheck;
 use refusal::Outcome;
 use report::Report;
 use report::no_report;
-use wire::FRAMING;
+use span::Span;
 use wire::Kind;
-use wire::MaybeKind;
-use wire::MaybeU16;
-use wire::le16;
-use wire::same;
 ghost use mathlib.Core.Path.{_≡_};
 ghost use Rattle.refusal.specs.Check.{Causes};
 ghost use Rattle.wire.specs.declared.Kind.the-variants as Family;
@@ -47,9 +44,6 @@ pub struct FrameResult {
     pub outcome: Outcome,
     pub frame: Frame,
 }
-
-// Where the data of a frame begin: behind the header and the length.
-const DATA_START: usize = FRAMING - 4;
 
 // Where an acknowledgement's payload begins in its data.
 const PAYLOAD_START: usize = 4;
@@ -162,24 +156,12 @@ impl Frame {
     pub fn checked(bytes: &[u8]) -> CheckedFrame
         ensures checked { λ r. ⌜ r ≡ checkedFrame (now (bytes .entry)) ⌝ }
     {
-        if bytes.len() < 4 {
-            return CheckedFrame::failing(Check::F1);
+        match Envelope::open(bytes) {
+            Envelope::Failed(check) => CheckedFrame::failing(check),
+            Envelope::Data(kind, end) => {
+                Frame::decode_at(kind, &bytes[DATA_START..end], DATA_START + PAYLOAD_START)
+            }
         }
-        let MaybeKind::Some(kind) = Kind::of_header(&bytes[..4]) else {
-            return CheckedFrame::failing(Check::F1);
-        };
-        let MaybeU16::Some(len) = le16(bytes, 4) else {
-            return CheckedFrame::failing(Check::F2);
-        };
-        let end = DATA_START + len as usize;
-        if bytes.len() < end {
-            return CheckedFrame::failing(Check::F3);
-        }
-        let tail = kind.tail();
-        if !same(&bytes[end..], &tail) {
-            return CheckedFrame::failing(Check::F4);
-        }
-        Frame::decode_at(kind, &bytes[DATA_START..end], DATA_START + PAYLOAD_START)
     }
 
     // Decodes one whole frame held in `bytes`. Refuses with 1 where F1 to F4 or the body's layout fail, with 2 where

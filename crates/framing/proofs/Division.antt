@@ -1,13 +1,12 @@
 -- What a division's pieces spell and add up to.
 use mathlib.Core.Path.{_≡_, refl, sym, _∙_, ap}
 use mathlib.Core.List.{List, [], _∷_, _++_, append-assoc, append-nil}
-use mathlib.Core.Bool.{Bool}
 use Prim.Native.Nat.{ℕ, _+_}
 use native.Mathlib.Omega.{arith}
 use lib.ListN.{length, length-append}
 use Rattle.framing.specs.Framing.{Framing, Piece, stray, broken, whole, unfinished, bytes, spelled}
 use Rattle.framing.specs.Division.{Division, is-empty, is-stray, is-broken, is-whole, is-unfinished}
-use Rattle.framing.specs.Tally.{lost, framed, waiting, sum, passes, passing}
+use Rattle.framing.specs.Tally.{lost, framed, waiting, sum}
 
 pub spelled-append : (ps qs : List Piece) → spelled (ps ++ qs) ≡ spelled ps ++ spelled qs
 spelled-append [] qs = refl
@@ -24,12 +23,6 @@ division-spelled (is-stray {b} n d) = ap (λ (l : List ℕ). b ∷ l) (division-
 division-spelled (is-broken {s} ne o w n d) = ap (λ (l : List ℕ). s ++ l) (division-spelled d)
 division-spelled (is-whole {s} w d) = ap (λ (l : List ℕ). s ++ l) (division-spelled d)
 division-spelled (is-unfinished {s} ne o w) = append-nil s
-
-pub passing-append : (test : List ℕ → Bool) (ps qs : List Piece)
-    → passing test (ps ++ qs) ≡ passing test ps ++ passing test qs
-passing-append test [] qs = refl
-passing-append test (p ∷ ps) qs =
-    rw (passing-append test ps qs) (sym (append-assoc (passes test p) (passing test ps) (passing test qs)))
 
 -- Each byte is lost, or in the unfinished end, or in a whole frame.
 part : (p : Piece) → length (bytes p) ≡ lost p + waiting p + framed p

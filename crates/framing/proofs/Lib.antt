@@ -1,9 +1,5 @@
--- The laws of the theory of the stream, in the order in which they lean on one another.
+-- The laws of the theory of divisions, in the order in which they lean on one another.
 
--- When a list is one of bytes.
-pub mod Bytes
--- Decisions as tests, and every framing as one that is given by tests.
-pub mod Tests
 -- What a division spells and adds up to.
 pub mod Division
 -- Where frames end in a list of pieces.
@@ -16,47 +12,5 @@ pub mod Scanner
 pub mod Append
 -- Where the scanner ends a frame, a whole piece of every division ends.
 pub mod Events
--- What the scanner's pieces add up to.
-pub mod Totals
 -- How often a stream can break.
 pub mod Resyncs
--- Runs, taken apart.
-pub mod Runs
--- The stretches, glued by resets, are the history.
-pub mod Glue
--- A byte delivers the frame that it ends.
-pub mod Deliveries
--- Answers and counts behind a pending string.
-pub mod Answers
--- Stretches of calls, the first of them behind a pending string.
-pub mod Stretches
--- What a lawful engine's calls come to.
-pub mod Moves
--- A lawful engine is right over any list of calls.
-pub mod Correct
--- At a place one frame ends, one answer is right, and one count.
-pub mod Sure
--- The claim about a history, call by call.
-pub mod InTurn
--- The claim leaves no choice.
-pub mod Same
--- An empty slice takes no byte, and delivers nothing.
-pub mod Empty
--- A lawful engine is right from any state.
-pub mod Behind
--- Every frame of bytes fed one by one is answered.
-pub mod Fed
--- Two lawful engines do the same from states that stand for the same.
-pub mod Alike
--- A run that is stored and resumed is as one run.
-pub mod Resumed
--- Every byte taken is accounted for.
-pub mod Accounts
--- What every byte fed keeps, bytes fed up to a frame's end keep.
-pub mod Until
--- The reference engine is lawful.
-pub mod Reference
--- There is a coded engine, of which the claims speak.
-pub mod Coded
--- The theorem holds of the sample.
-pub mod Sample

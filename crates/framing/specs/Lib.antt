@@ -1,7 +1,5 @@
--- The meanings of the theory of the stream, in reading order. The laws about them are in proofs/.
+-- The meanings of the theory of divisions, in reading order. The laws about them are in proofs/.
 
--- Bytes, and properties of every element of a list.
-pub mod Bytes
 -- A framing: which strings are open, and which are whole frames. Pieces of a stream.
 pub mod Framing
 -- Framings that are given by tests.
@@ -12,25 +10,9 @@ pub mod Division
 pub mod Tally
 -- What one more byte does to a division.
 pub mod Scanner
--- Runs of calls on any machine.
-pub mod Runs
--- Calls on a parser, and the stretches between resets.
-pub mod Calls
--- A parser as an engine, and what its answers deliver.
-pub mod Engine
--- What a list of calls from a fresh state owes: demand 3.
-pub mod Correct
--- What a list of calls without a reset owes, whatever was pending before it.
-pub mod Behind
--- What one call of an engine has to do, so that every list of calls is right.
-pub mod Lawful
--- When states of two engines stand for the same.
-pub mod Alike
--- The engine that keeps the pending string itself.
-pub mod Reference
 -- Frames of a fixed length.
 pub mod Fixed
--- A sample framing, decoding and run.
+-- A sample framing and stream.
 pub mod Sample
 -- The claims.
 pub mod Claims

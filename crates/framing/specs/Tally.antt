@@ -5,11 +5,10 @@
 --   framed          the bytes of a whole frame
 --   waiting         the bytes of an unfinished end
 --   passed test     1 for a whole frame that passes the test: 01's frames and malformed
---   passing test    the whole frames that pass the test, in order
 --   Counting K      what each piece adds to each of the tallies K
 --   total C k ps    what the pieces ps add to the tally k
 use mathlib.Core.Path.{_≡_}
-use mathlib.Core.List.{List, [], _∷_, _++_}
+use mathlib.Core.List.{List, [], _∷_}
 use mathlib.Core.Bool.{Bool, true, false}
 use Prim.Native.Nat.{ℕ, _+_}
 use lib.ListN.{length}
@@ -52,21 +51,6 @@ passed test (stray b) = 0
 passed test (broken s) = 0
 passed test (whole s) = one-if (test s)
 passed test (unfinished s) = 0
-
--- The element, if so, and else nothing.
-abbrev pub only-if : {A : Type 0} → Bool → A → List A
-only-if true a = a ∷ []
-only-if false a = []
-
-abbrev pub passes : (List ℕ → Bool) → Piece → List (List ℕ)
-passes test (stray b) = []
-passes test (broken s) = []
-passes test (whole s) = only-if (test s) s
-passes test (unfinished s) = []
-
-abbrev pub passing : (List ℕ → Bool) → List Piece → List (List ℕ)
-passing test [] = []
-passing test (p ∷ ps) = passes test p ++ passing test ps
 
 -- An unfinished end adds nothing: 01, "An unfinished end forgotten by reset enters no counter".
 pub record Counting (K : Type 0) : Type 0 where

@@ -1,6 +1,6 @@
 -- Framings that are given by tests. The claims speak of these: a contract can hold a statement about every test, and
--- none about every framing, since predicates are too large for it. Every framing is equal to one of these up to `↔`.
---   decided d    what a decision says: true where it is yes
+-- none about every framing, since predicates are too large for it. The
+-- link's own framing is given by tests (crate `stream`).
 --   Tests        a test for open strings and one for whole frames, with the laws of a framing
 --   framingOf X  the framing whose strings pass the tests X
 use mathlib.Core.List.{List}
@@ -8,10 +8,6 @@ use mathlib.Core.Bool.{Bool, true, false}
 use Prim.Native.Nat.{ℕ}
 use lib.Dec.{T}
 use Rattle.framing.specs.Framing.{Laws, Framing}
-
-abbrev pub decided : {P : Type 0} → Dec P → Bool
-decided (yes p) = true
-decided (no n) = false
 
 -- Every test is a decision.
 abbrev pub T? : (b : Bool) → Dec (T b)

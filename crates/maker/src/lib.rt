@@ -11,7 +11,7 @@ ghost use mathlib.Core.Path.{_≡_};
 ghost use mathlib.Core.List.{[], _∷_};
 ghost use mathlib.Core.Option.{none};
 ghost use lib.ListN.{length};
-ghost use Rattle.wire.specs.Number.{leBytes};
+ghost use Rattle.number.specs.Number.{leBytes};
 ghost use Rattle.writer.specs.Written.{answerOf, bufferAfter};
 ghost use Rattle.cursor.specs.Parts.{putAll, endAll};
 ghost use Rattle.maker.specs.Request.{recordBytes, request, parts};

@@ -19,7 +19,7 @@ use denote.Laws.{Is, Tells, Makes}
 use denote.Struct.Laws as LL
 use Rattle.parser.specs.declared.Parser.{Parser}
 use Rattle.scan.specs.declared.Scan.{Scan}
-use Rattle.scan.specs.declared.Stats.{Stats}
+use Rattle.stats.specs.declared.Stats.{Stats}
 use Rattle.feeding.specs.declared.Moved.{Moved}
 use Rattle.feeding.specs.declared.MovedSlice.{MovedSlice}
 use Rattle.parser.specs.declared.Fed.{Fed}
@@ -29,8 +29,8 @@ use Rattle.frame.proofs.Frame.Laws as X′
 use Rattle.parser.proofs.Parser.Laws as T′
 use Rattle.scan.proofs.Scan as C
 use Rattle.scan.proofs.Scan.Laws as C′
-use Rattle.scan.proofs.Stats as N
-use Rattle.scan.proofs.Stats.Laws as N′
+use Rattle.stats.proofs.Stats as N
+use Rattle.stats.proofs.Stats.Laws as N′
 use Rattle.feeding.proofs.Taken as Y
 use Rattle.feeding.proofs.Taken.Laws as Y′
 use Rattle.feeding.proofs.Moved as F

@@ -21,9 +21,9 @@ use denote.Triple.Clauses.{Ended, Clauses}
 use denote.Exit.{yes}
 use Rattle.parser.specs.declared.Parser.{Parser}
 use Rattle.scan.specs.declared.Scan.{Scan}
-use Rattle.scan.specs.declared.Stats.{Stats}
+use Rattle.stats.specs.declared.Stats.{Stats}
 use Rattle.scan.proofs.Scan as C
-use Rattle.scan.proofs.Stats as N
+use Rattle.stats.proofs.Stats as N
 use Rattle.parser.proofs.Memory.{P}
 use Rattle.parser.proofs.Extra.{Extra}
 use Rattle.parser.proofs.Answers.{Answer, Moves, Hands}

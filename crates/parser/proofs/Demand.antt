@@ -4,19 +4,19 @@ use mathlib.Core.List.{List, []}
 use mathlib.Core.Bool.{true, false}
 use Prim.Native.Nat.{ℕ, _+_, _<_}
 use native.Mathlib.Omega.{arith}
-use Rattle.framing.specs.Bytes.{Every}
 use Rattle.framing.specs.Tally.{sum, framed}
-use Rattle.framing.specs.Calls.{Call, ByteCall, takenBy}
-use Rattle.framing.specs.Correct.{Correct}
-use Rattle.framing.proofs.Correct.{correct}
-use Rattle.framing.proofs.Accounts.{accounts}
-use Rattle.framing.proofs.Same.{same}
+use Rattle.engine.specs.Bytes.{Every}
+use Rattle.engine.specs.Calls.{Call, ByteCall, takenBy}
+use Rattle.engine.specs.Correct.{Correct}
+use Rattle.engine.proofs.Correct.{correct}
+use Rattle.engine.proofs.Accounts.{accounts}
+use Rattle.engine.proofs.Same.{same}
 use Rattle.stream.specs.Link.{link}
 use Rattle.stream.specs.Deliver.{frames, resyncs, dropped, malformed}
 use Rattle.stream.specs.Decoding.{decoding, counting}
 use Rattle.scan.specs.Scan.{hunting, inOrder, settled}
 use Rattle.scan.specs.declared.Scan.{Scan}
-use Rattle.scan.specs.declared.Stats.{Stats}
+use Rattle.stats.specs.declared.Stats.{Stats}
 use Rattle.step.specs.Slice.{runOf}
 use Rattle.scan.proofs.Orders.{settled-same, settled-out}
 use Rattle.parser.specs.Feed.{fresh, feedOf, feedSliceOf}

@@ -7,28 +7,28 @@ use Prim.Native.Nat.{ℕ, _≤_, _<_}
 use native.Mathlib.Omega.{arith}
 use lib.ListN.{length, take, drop, take-append-drop}
 use lib.Seq.{length-take-le}
-use Rattle.wire.specs.Number.{leBytes}
-use Rattle.wire.specs.Counter.{bumped}
-use Rattle.wire.proofs.Counters.{bumped-nil}
+use Rattle.number.specs.Number.{leBytes}
+use Rattle.number.specs.Counter.{bumped}
+use Rattle.number.proofs.Counters.{bumped-nil}
 use Rattle.wire.specs.Family.{header, tail, framed}
 use Rattle.wire.specs.declared.Kind.{Kind}
 use Rattle.frame.specs.Frame.{decoded}
 use Rattle.framing.specs.Framing.{Framing}
 use Rattle.framing.specs.Tally.{sum, one-if, passed}
 use Rattle.framing.specs.Scanner as Scanner
-use Rattle.framing.specs.Lawful.{answerAt}
 use Rattle.framing.proofs.View.{Does, does-end, does-open, does-stray, does-break, does}
+use Rattle.engine.specs.Lawful.{answerAt}
 use Rattle.stream.specs.Deliver.{holds, decodes, delivered, frames, resyncs, dropped, malformed}
 use Rattle.stream.specs.Decoding.{decoding}
 use Rattle.stream.proofs.Delivered.{decodes-framed, delivered-framed, decoded-failed}
-use Rattle.scan.specs.Start.{counted}
+use Rattle.stats.specs.Start.{counted}
 use Rattle.feeding.specs.Moved.{emitted}
 use Rattle.parser.specs.Feed.{put}
 use Rattle.parser.specs.Engine.{answerOf}
 use Rattle.scan.specs.declared.Scan.{Scan}
-use Rattle.scan.specs.declared.Stats.{Stats}
-use Rattle.scan.specs.declared.Ended.{Ended}
-use Rattle.scan.specs.declared.Ended.the-variants.{Frame, Nothing}
+use Rattle.stats.specs.declared.Stats.{Stats}
+use Rattle.stats.specs.declared.Ended.{Ended}
+use Rattle.stats.specs.declared.Ended.the-variants.{Frame, Nothing}
 use Rattle.step.proofs.Follow.{Capped, endedAs, Fits}
 
 -- Whole frames that pass a test, among the pieces that a byte closed: the one that it ended, if any.

@@ -2,13 +2,13 @@
 use mathlib.Core.Path.{_≡_, refl, sym, ap, subst, _∙_}
 use mathlib.Core.List.{List, [], _∷_}
 use Prim.Native.Nat.{ℕ, _+_, _≤_, _<_, min}
-use Rattle.wire.specs.Counter.{counterMost}
-use Rattle.framing.specs.Bytes.{Byte, Bytes}
-use Rattle.framing.specs.Engine.{Sliced}
+use Rattle.number.specs.Counter.{counterMost}
 use Rattle.framing.specs.Tally.{total}
 use Rattle.framing.specs.Scanner as Scanner
-use Rattle.framing.specs.Lawful.{answerAt, feedUntil, Lawful}
-use Rattle.framing.proofs.Until.{until-invariant}
+use Rattle.engine.specs.Bytes.{Byte, Bytes}
+use Rattle.engine.specs.Engine.{Sliced}
+use Rattle.engine.specs.Lawful.{answerAt, feedUntil, Lawful}
+use Rattle.engine.proofs.Until.{until-invariant}
 use Rattle.stream.specs.Link.{link}
 use Rattle.stream.specs.Deliver.{Answer, Counter, frames, resyncs, dropped, malformed}
 use Rattle.stream.specs.Decoding.{decoding, counting}

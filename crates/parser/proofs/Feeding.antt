@@ -5,11 +5,11 @@ use mathlib.Core.Bool.{true, not}
 use Prim.Native.Nat.{ℕ, _+_, _≤_, _<_, min}
 use native.Mathlib.Omega.{arith}
 use lib.ListN.{length, length-set}
-use Rattle.wire.specs.Counter.{counterMost, bumped}
-use Rattle.wire.proofs.Counters.{bumped-most}
+use Rattle.number.specs.Counter.{counterMost, bumped}
+use Rattle.number.proofs.Counters.{bumped-most}
 use Rattle.framing.specs.Tally.{sum, resynced, lost, total}
 use Rattle.framing.specs.Scanner as Scanner
-use Rattle.framing.specs.Lawful.{answerAt}
+use Rattle.engine.specs.Lawful.{answerAt}
 use Rattle.stream.specs.Link.{link}
 use Rattle.stream.specs.Deliver.{decodes, Counter, frames, resyncs, dropped, malformed}
 use Rattle.stream.specs.Decoding.{decoding, counting}
@@ -22,7 +22,7 @@ use Rattle.scan.specs.declared.State.{State}
 use Rattle.scan.specs.declared.State.the-variants.{Header, Len, Data, Tail}
 use Rattle.scan.specs.declared.Scan.{Scan}
 use Rattle.parser.specs.declared.Parser.{Parser}
-use Rattle.scan.specs.declared.Stepped.{Stepped}
+use Rattle.stats.specs.declared.Stepped.{Stepped}
 use Rattle.feeding.specs.declared.Moved.{Moved}
 use Rattle.step.proofs.Follow.{Capped, Follows}
 use Rattle.step.proofs.Steps.{follows}

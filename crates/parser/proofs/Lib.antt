@@ -20,13 +20,15 @@ pub mod Answers
 pub mod Contracts
 -- From a function's code to its routine.
 pub mod Carried
--- A feed of a parser that is lent.
+-- A feed of a parser that is lent: its call, and its walk.
+pub mod LentCall
 pub mod LentFeed
 -- A reset of a parser that is lent.
 pub mod LentReset
 -- A parser in a local, lent for a call.
 pub mod Local
--- A feed by value that lends a local.
+-- A feed by value that lends a local: its call, and its walk.
+pub mod LocalCall
 pub mod LocalFeed
 -- A reset by value that lends a local.
 pub mod LocalReset

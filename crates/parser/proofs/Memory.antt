@@ -34,13 +34,13 @@ use denote.Struct.Laws as LL
 use Rattle.parser.specs.Feed.{put}
 use Rattle.parser.specs.declared.Parser.{Parser}
 use Rattle.scan.specs.declared.Scan.{Scan}
-use Rattle.scan.specs.declared.Stats.{Stats}
+use Rattle.stats.specs.declared.Stats.{Stats}
 use Rattle.parser.proofs.Parser as T
 use Rattle.parser.proofs.Parser.Laws as T′
 use Rattle.scan.proofs.Scan as C
 use Rattle.scan.proofs.Scan.Laws as C′
-use Rattle.scan.proofs.Stats as N
-use Rattle.scan.proofs.Stats.Laws as N′
+use Rattle.stats.proofs.Stats as N
+use Rattle.stats.proofs.Stats.Laws as N′
 use Rattle.parser.proofs.Feeding.{Valid}
 
 abbrev pub P : RattleType

@@ -3,9 +3,9 @@ use mathlib.Core.Path.{_≡_, refl, ap}
 use mathlib.Core.List.{List, [], _∷_}
 use mathlib.Core.Bool.{true}
 use Prim.Native.Nat.{ℕ, suc, _<_}
-use Rattle.framing.specs.Bytes.{Bytes}
-use Rattle.framing.specs.Engine.{Sliced}
-use Rattle.framing.specs.Lawful.{stopIf, feedUntil}
+use Rattle.engine.specs.Bytes.{Bytes}
+use Rattle.engine.specs.Engine.{Sliced}
+use Rattle.engine.specs.Lawful.{stopIf, feedUntil}
 use Rattle.stream.specs.Link.{link}
 use Rattle.stream.specs.Deliver.{Answer}
 use Rattle.stream.specs.Decoding.{decoding}
@@ -16,12 +16,12 @@ use Rattle.feeding.specs.Moved.{emitted, bufOf, movedOf}
 use Rattle.parser.specs.Feed.{put, feedOf}
 use Rattle.parser.specs.Engine.{answerOf, engine}
 use Rattle.scan.specs.declared.Scan.{Scan}
-use Rattle.scan.specs.declared.Stats.{Stats}
+use Rattle.stats.specs.declared.Stats.{Stats}
 use Rattle.parser.specs.declared.Parser.{Parser}
 use Rattle.parser.specs.declared.Fed.{Fed}
 use Rattle.feeding.specs.declared.Moved.{Moved}
-use Rattle.scan.specs.declared.Ended.{Ended}
-use Rattle.scan.specs.declared.Ended.the-variants.{Frame, Nothing}
+use Rattle.stats.specs.declared.Ended.{Ended}
+use Rattle.stats.specs.declared.Ended.the-variants.{Frame, Nothing}
 use Rattle.step.proofs.Follow.{endedAs}
 use Rattle.scan.proofs.Orders.{settled-same}
 use Rattle.parser.proofs.Feeding.{Valid, one-follows, one-stepped}

@@ -5,21 +5,21 @@
 --   Accounted p         from p, without a reset and while `dropped` is not full, no byte is unaccounted for
 --   Determined p        the claim leaves no choice: whatever satisfies it answers, tells and counts as this parser does
 --   ResetFirst p q      p, with a field out of range, is fed as q is, which is what a reset of p leaves
--- A division and its pieces, calls, histories and stretches are those of the crate `framing`; what is open, what is a
--- whole frame, what decodes and what is delivered those of the crate `stream`. 54 is the largest length, 4,294,967,295
--- the most that a counter holds.
+-- A division and its pieces are those of the crate `framing`, calls, histories and stretches those of the crate
+-- `engine`; what is open, what is a whole frame, what decodes and what is delivered those of the crate `stream`. 54 is
+-- the largest length, 4,294,967,295 the most that a counter holds.
 use mathlib.Core.Path.{_≡_}
 use mathlib.Core.List.{List, _∷_, _++_, List·Memᴰ}
 use mathlib.Core.Bool.{false, not}
 use Prim.Native.Nat.{ℕ, _+_, _<_, min}
 use lib.ListN.{length}
-use Rattle.framing.specs.Bytes.{Every}
 use Rattle.framing.specs.Framing.{Piece}
 use Rattle.framing.specs.Division.{Division, Divided}
 use Rattle.framing.specs.Tally.{sum, resynced, lost, framed, waiting, passed}
-use Rattle.framing.specs.Calls.{Call, ByteCall, Goes, Did, Took, takenBy, stretches, glue, lastOf, sumOver}
-use Rattle.framing.specs.Engine.{Engine, history, final, deliveries, answers}
-use Rattle.framing.specs.Correct.{CallRight, Correct, Same}
+use Rattle.engine.specs.Bytes.{Every}
+use Rattle.engine.specs.Calls.{Call, ByteCall, Goes, Did, Took, takenBy, stretches, glue, lastOf, sumOver}
+use Rattle.engine.specs.Engine.{Engine, history, final, deliveries, answers}
+use Rattle.engine.specs.Correct.{CallRight, Correct, Same}
 use Rattle.stream.specs.Link.{link}
 use Rattle.stream.specs.Deliver.{Answer, decodes, Counter}
 use Rattle.stream.specs.Decoding.{decoding, counting}

@@ -5,13 +5,13 @@
 --   engine most      the calls, the counters, and the pending string
 use mathlib.Core.List.{List}
 use Prim.Native.Nat.{ℕ}
-use Rattle.wire.specs.Counter.{counterMost}
+use Rattle.number.specs.Counter.{counterMost}
 use Rattle.frame.specs.declared.Frame.{Frame}
-use Rattle.framing.specs.Engine.{Engine}
+use Rattle.engine.specs.Engine.{Engine}
 use Rattle.stream.specs.Deliver.{Answer, payloadOf, Counter, frames, resyncs, dropped, malformed}
 use Rattle.scan.specs.Scan.{settled, pendingOf}
 use Rattle.parser.specs.Feed.{feedOf, feedSliceOf, resetOf, unfinishedOf}
-use Rattle.scan.specs.declared.Stats.{Stats}
+use Rattle.stats.specs.declared.Stats.{Stats}
 use Rattle.parser.specs.declared.Parser.{Parser}
 
 abbrev pub answerOf : Frame → Parser → Answer

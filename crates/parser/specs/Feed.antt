@@ -9,7 +9,7 @@ use Prim.Native.Nat.{ℕ}
 use lib.ListN.{replicate}
 use Rattle.scan.specs.Scan.{hunting, unfinishedBy}
 use Rattle.scan.specs.declared.Scan.{Scan}
-use Rattle.scan.specs.declared.Stats.{Stats}
+use Rattle.stats.specs.declared.Stats.{Stats}
 use Rattle.parser.specs.declared.Parser.{Parser}
 use Rattle.parser.specs.declared.Fed.{Fed}
 use Rattle.parser.specs.declared.FedSlice.{FedSlice}

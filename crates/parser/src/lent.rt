@@ -1,6 +1,4 @@
-// The parser where it stands: the feeds and the reset of a parser that is lent, and the same of a local.
-use super::Fed;
-use super::FedSlice;
+// The parser where it stands: the feeds and the reset of a parser that is lent, and the reset of a local.
 use super::Parser;
 use feeding::Taken;
 use feeding::feed_at;
@@ -8,7 +6,7 @@ use feeding::feed_slice_at;
 use frame::Frame;
 use scan::Scan;
 ghost use mathlib.Core.Path.{_≡_};
-ghost use Rattle.stream.specs.Link.{linkMost};
+ghost use Rattle.limit.specs.Length.{linkMost};
 ghost use Rattle.parser.specs.Feed.{feedOf, feedSliceOf, resetOf};
 ghost use Rattle.parser.specs.Claims.{FromHere, Determined};
 
@@ -49,32 +47,8 @@ impl Parser {
     }
 }
 
-// `Parser::fed`, by a local that is lent to `Parser::feed`. Who calls this, or one of the two below, lends nothing, and
-// needs no proof about memory.
-pub fn feed_lent(parser: Parser, byte: u8) -> Fed
-    ensures fed { λ r. ⌜ r ≡ feedOf linkMost parser byte ⌝ }
-{
-    let mut lent = parser;
-    let answer = lent.feed(byte);
-    Fed {
-        parser: lent,
-        answer,
-    }
-}
-
-// `Parser::fed_slice`, by a local that is lent to `Parser::feed_slice`.
-pub fn feed_slice_lent(parser: Parser, bytes: &[u8]) -> FedSlice
-    ensures fed { λ r. ⌜ r ≡ feedSliceOf linkMost parser (now (bytes .entry)) ⌝ }
-{
-    let mut lent = parser;
-    let answer = lent.feed_slice(bytes);
-    FedSlice {
-        parser: lent,
-        answer,
-    }
-}
-
-// `Parser::cleared`, by a local that is lent to `Parser::reset`.
+// `Parser::cleared`, by a local that is lent to `Parser::reset`. Who calls this lends nothing, and needs no proof about
+// memory.
 pub fn reset_lent(parser: Parser) -> Parser
     ensures reset { λ r. ⌜ r ≡ resetOf parser ⌝ }
     ensures fulfilled { λ r. ⌜ FromHere r ⌝ }

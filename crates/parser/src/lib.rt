@@ -4,18 +4,17 @@
 // counters, so that a byte moves a few numbers and the buffer stays where it is.
 use feeding::Taken;
 use frame::Frame;
+use place::unfinished;
 use scan::Scan;
-use scan::Stats;
+use stats::Stats;
 use wire::MAX_FRAME;
 
 mod lent;
 mod value;
 
-pub use lent::feed_lent;
-pub use lent::feed_slice_lent;
 pub use lent::reset_lent;
 ghost use mathlib.Core.Path.{_≡_};
-ghost use Rattle.stream.specs.Link.{linkMost};
+ghost use Rattle.limit.specs.Length.{linkMost};
 ghost use Rattle.parser.specs.Feed.{fresh, unfinishedOf};
 ghost use Rattle.parser.specs.Claims.{FromHere, Accounted, Determined};
 
@@ -70,6 +69,6 @@ impl Parser {
         ensures told { λ r. ⌜ r ≡ unfinishedOf linkMost self ⌝ }
     {
         let scan = self.scan;
-        scan.unfinished()
+        unfinished(scan)
     }
 }

@@ -1,12 +1,11 @@
--- Strings of bytes; the bytes of a number and the number of bytes, at any width, are each other's inverse.
-use mathlib.Core.Path.{_≡_, refl, ap}
+-- Strings of bytes; and bytes, at any width, come back from the number that they are.
+use mathlib.Core.Path.{_≡_, refl}
 use mathlib.Core.List.{List, [], _∷_, _++_}
-use Prim.Native.Nat.{ℕ, zero, suc, _+_, _*_, _/_, _%_, _^_, _<_}
-use native.Mathlib.Nat.{pow-suc}
+use Prim.Native.Nat.{ℕ, zero, suc, _+_, _*_, _/_, _%_, _<_}
 use native.Mathlib.Omega.{arith}
 use lib.ListN.{length, getD, take, drop}
-use Rattle.wire.specs.Bytes.{Bytes}
-use Rattle.wire.specs.Number.{little, leBytes}
+use Rattle.number.specs.Bytes.{Bytes}
+use Rattle.number.specs.Number.{little, leBytes}
 use Rattle.wire.specs.Family.{header, tail, framed}
 use Rattle.wire.specs.declared.Kind.{Kind}
 use Rattle.wire.specs.declared.Kind.the-variants.{Report, Command}
@@ -29,10 +28,6 @@ pub bytes-append : (a b : List ℕ) → Bytes a → Bytes b → Bytes (a ++ b)
 bytes-append [] b h k = k
 bytes-append (x ∷ a) b h k = (h .0, bytes-append a b (h .1) k)
 
-pub length-leBytes : (n x : ℕ) → length (leBytes n x) ≡ n
-length-leBytes zero x = refl
-length-leBytes (suc n) x = ap suc (length-leBytes n (x / 256))
-
 pub bytes-leBytes : (n x : ℕ) → Bytes (leBytes n x)
 bytes-leBytes zero x = tt
 bytes-leBytes (suc n) x = (omega arith, bytes-leBytes n (x / 256))
@@ -52,13 +47,6 @@ framed-bytes k d h =
     bytes-append (header k) (leBytes 2 (length d) ++ (d ++ tail k)) (header-bytes k)
     (bytes-append (leBytes 2 (length d)) (d ++ tail k) (bytes-leBytes 2 (length d))
     (bytes-append d (tail k) h (tail-bytes k)))
-
--- A number that n bytes can hold comes back from them.
-pub little-leBytes : (n x : ℕ) → x < 256 ^ n → little (leBytes n x) ≡ x
-little-leBytes zero x h = omega arith
-little-leBytes (suc n) x h =
-    let p = pow-suc 256 n in
-    omega (arith, little-leBytes n (x / 256) (omega arith))
 
 -- Bytes come back from their number.
 pub leBytes-little : (s : List ℕ) → Bytes s → leBytes (length s) (little s) ≡ s

@@ -4,7 +4,7 @@ use mathlib.Core.List.{List}
 use Prim.Native.Nat.{ℕ, _+_, _≤_, _<_}
 use lib.ListN.{length}
 use borrow.Author.Tests.{le-leb, lt-leb}
-use Rattle.wire.specs.Prefix.{over}
+use Rattle.byte_string.specs.Prefix.{over}
 use Rattle.put.specs.Put.{placed, putIn}
 use Rattle.put.specs.declared.Placed.the-variants.{End, TooSmall}
 

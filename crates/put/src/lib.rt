@@ -3,7 +3,7 @@
 // Every function is total: a place past the end, or too little room, is a variant of its answer, and changes no byte.
 ghost use mathlib.Core.Path.{_≡_};
 ghost use mathlib.Core.List.{_++_};
-ghost use Rattle.wire.specs.Number.{leBytes};
+ghost use Rattle.number.specs.Number.{leBytes};
 ghost use Rattle.put.specs.Put.{placed, putIn};
 
 // Where a put ended: the place behind the bytes, or that they do not fit from its place on.

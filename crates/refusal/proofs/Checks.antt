@@ -55,6 +55,29 @@ module _ (s : List ℕ) where
       go false h more e = let q : x .0 ≡ c = cc in
           record { before = []; test = x .1; behind = cs; split = rw q; held = tt; failed = h }
 
+-- Checks in front of others: the first of them that fails is the first of all; where none fails the others decide.
+module _ (s : List ℕ) (ds : Checks) where
+  pub failed-before : (cs : Checks) (c : Check) → firstFailed cs s ≡ Maybe.Some c
+      → firstFailed (cs ++ ds) s ≡ Maybe.Some c
+  failed-before [] c e = let z : _≡_ {A = ℕ} 0 1 = cc in absurd (omega arith)
+  failed-before (x ∷ cs) c e = go (x .1 s) (λ h. failed-before cs c h) e
+    where
+      go : (b : Bool) → (firstFailed cs s ≡ Maybe.Some c → firstFailed (cs ++ ds) s ≡ Maybe.Some c)
+          → orFailed b (x .0) (firstFailed cs s) ≡ Maybe.Some c
+          → orFailed b (x .0) (firstFailed (cs ++ ds) s) ≡ Maybe.Some c
+      go true more e = more e
+      go false more e = e
+
+  pub passed-before : (cs : Checks) → firstFailed cs s ≡ Maybe.None → firstFailed (cs ++ ds) s ≡ firstFailed ds s
+  passed-before [] e = refl
+  passed-before (x ∷ cs) e = go (x .1 s) (λ h. passed-before cs h) e
+    where
+      go : (b : Bool) → (firstFailed cs s ≡ Maybe.None → firstFailed (cs ++ ds) s ≡ firstFailed ds s)
+          → orFailed b (x .0) (firstFailed cs s) ≡ Maybe.None
+          → orFailed b (x .0) (firstFailed (cs ++ ds) s) ≡ firstFailed ds s
+      go true more e = more e
+      go false more e = let z : _≡_ {A = ℕ} 0 1 = cc in absurd (omega arith)
+
 -- Every check but R6 gives 1.
 numbered : (c : Check) → (numberOf (errorOf c) ≡ 1) ⊎ (c ≡ R6)
 numbered F1 = inl refl

@@ -1,11 +1,12 @@
 // The fields of an argument: the little-endian number at a place. An op looks at its argument's length before it reads
 // them; where one is not there it reads as 0.
-use wire::MaybeU8;
-use wire::MaybeU16;
-use wire::MaybeU32;
-use wire::byte_at;
-use wire::le16;
-use wire::le32;
+use number::MaybeU8;
+use number::MaybeU16;
+use number::MaybeU32;
+use number::byte_at;
+use number::le16;
+use number::le32;
+use number::least;
 ghost use Prim.Native.Nat.{_<_};
 
 pub fn u8_at(argument: &[u8], at: usize) -> u8 {
@@ -38,4 +39,10 @@ pub fn usize_at(argument: &[u8], at: usize) -> usize
     requires inside { ⌜ at < 70000 ⌝ }
 {
     u32_at(argument, at) as usize + 4_294_967_296 * (u32_at(argument, at + 4) as usize)
+}
+
+// The bytes from a place on; none where the argument is not as long.
+pub fn rest(argument: &[u8], at: usize) -> &[u8] {
+    let start = least(at, argument.len());
+    &argument[start..]
 }

@@ -1,16 +1,13 @@
 // The cases at the front of some bytes: an op (1 byte), the argument's length (4) and the argument.
-use crate::argument::u8_at;
 use crate::argument::u32_at;
 use crate::line::Text;
 use crate::ops;
+use crate::ops::HEAD;
 ghost use Prim.Native.Nat.{_≤_};
 ghost use lib.ListN.{length};
 
-// Bytes of a case before its argument.
-const HEAD: usize = 5;
-
 // The most bytes that an argument has.
-const LONGEST: usize = 70_000;
+const LONGEST: u32 = 70_000;
 
 // How far the cases are answered: how many bytes they used, how many of the output are taken, and whether the next case
 // is too long.
@@ -20,30 +17,23 @@ pub struct Answered {
     pub long: bool,
 }
 
-// Answers the first case, if it is all there.
-fn first(out: &mut Text, taken: usize, bytes: &[u8]) -> Answered
-    ensures inside { λ r. ⌜ r .used ≤ length (now (bytes .entry)) ⌝ }
+// Whether the first case is too long.
+fn is_long(bytes: &[u8]) -> bool {
+    u32_at(bytes, 1) > LONGEST
+}
+
+// Bytes of the first case; 0 where it is too long, or not all there.
+fn case_size(bytes: &[u8]) -> usize
+    ensures inside { λ r. ⌜ r ≤ length (now (bytes .entry)) ⌝ }
 {
-    let mut answered = Answered {
-        used: 0,
-        taken,
-        long: false,
-    };
-    if bytes.len() < HEAD {
-        return answered;
+    let size = HEAD + u32_at(bytes, 1) as usize;
+    if is_long(bytes) {
+        return 0;
     }
-    let size = u32_at(bytes, 1) as usize;
-    if size > LONGEST {
-        answered.long = true;
-        return answered;
+    if bytes.len() < size {
+        return 0;
     }
-    let end = HEAD + size;
-    if bytes.len() < end {
-        return answered;
-    }
-    answered.taken = ops::answer(out, taken, u8_at(bytes, 0), &bytes[HEAD..end]);
-    answered.used = end;
-    answered
+    size
 }
 
 // Answers the cases that are all there.
@@ -53,15 +43,16 @@ pub fn all(out: &mut Text, taken: usize, bytes: &[u8]) -> Answered
     let mut n = taken;
     let mut at = 0;
     loop {
-        let next = first(out, n, &bytes[at..]);
-        n = next.taken;
-        at += next.used;
-        if next.used == 0 {
+        let size = case_size(&bytes[at..]);
+        if size == 0 {
             return Answered {
                 used: at,
                 taken: n,
-                long: next.long,
+                long: is_long(&bytes[at..]),
             };
         }
+        let end = at + size;
+        n = ops::answer(out, n, &bytes[at..end]);
+        at = end;
     }
 }

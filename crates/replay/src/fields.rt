@@ -1,17 +1,15 @@
-// Op 13: a parser built from its fields, and a script of calls on it.
+// The parser that a script begins with: a new one, in op 13 one built from its fields.
+use crate::argument::rest;
 use crate::argument::u8_at;
 use crate::argument::u32_at;
 use crate::argument::usize_at;
-use crate::line;
-use crate::line::Text;
-use crate::scripts::run;
+use byte_string::copy_prefix;
 use parser::Parser;
 use scan::Scan;
 use scan::State;
-use scan::Stats;
+use stats::Stats;
 use wire::Kind;
 use wire::MAX_FRAME;
-use wire::copy_prefix;
 
 // Where a parser's buffer begins in an argument of op 13.
 const BUFFER_AT: usize = 42;
@@ -19,21 +17,34 @@ const BUFFER_AT: usize = 42;
 // Where the script begins there.
 const SCRIPT_AT: usize = BUFFER_AT + MAX_FRAME;
 
-// Op 13, on the fields of a parser and a script.
-pub fn built(out: &mut Text, taken: usize, argument: &[u8]) -> usize {
-    if argument.len() < SCRIPT_AT || u8_at(argument, 0) > 3 || u8_at(argument, 1) > 1 {
-        let n = line::decimal(out, taken, 13);
-        let n = line::none(out, n);
-        return line::end(out, n);
+// Whether an argument of op 13 has a parser.
+pub fn whole(argument: &[u8]) -> bool {
+    argument.len() >= SCRIPT_AT && u8_at(argument, 0) <= 3 && u8_at(argument, 1) <= 1
+}
+
+// Where the script begins in the argument of an op.
+pub fn script_at(op: u8) -> usize {
+    if op == 13 { SCRIPT_AT } else { 0 }
+}
+
+// The parser of an op.
+pub fn parser(op: u8, argument: &[u8]) -> Parser {
+    if op == 13 {
+        built(argument)
+    } else {
+        Parser::new()
     }
+}
+
+// The parser with the fields.
+fn built(argument: &[u8]) -> Parser {
     let mut buf: [u8; MAX_FRAME] = [0; MAX_FRAME];
-    copy_prefix(&mut buf, &argument[BUFFER_AT..SCRIPT_AT]);
-    let parser = Parser {
+    copy_prefix(&mut buf, rest(argument, BUFFER_AT));
+    Parser {
         buf,
         scan: scan(argument),
         stats: stats(argument),
-    };
-    run(out, taken, 13, false, parser, &argument[SCRIPT_AT..])
+    }
 }
 
 // The scan in an argument of op 13.

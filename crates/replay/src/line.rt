@@ -2,14 +2,17 @@
 //
 // Each function takes the buffer and how many of its bytes are taken, and answers how many are taken then.
 use libc::STDOUT_FILENO;
-use wire::least;
-ghost use Prim.Native.Nat.{_<_};
+use number::least;
+ghost use Prim.Native.Nat.{_<_, _≤_};
 
 // Bytes of the buffer.
 pub const SIZE: usize = 65_536;
 
 // The buffer.
 pub type Text = [u8; SIZE];
+
+// A few numbers of a line, with zeros behind them.
+pub type Row = [u64; 7];
 
 // Where the next byte goes: behind those that are taken, or in front once a full buffer is written.
 fn room(out: &Text, taken: usize) -> usize
@@ -50,17 +53,24 @@ pub fn decimal(out: &mut Text, taken: usize, value: u64) -> usize {
     word(out, taken, &digits[..k])
 }
 
+// Puts the op that a line begins with.
+pub fn op(out: &mut Text, taken: usize, op: u8) -> usize {
+    decimal(out, taken, op as u64)
+}
+
 // Puts a number behind a space.
 pub fn number(out: &mut Text, taken: usize, value: u64) -> usize {
     let n = put(out, taken, b' ');
     decimal(out, n, value)
 }
 
-// Puts each of the numbers.
-pub fn numbers(out: &mut Text, taken: usize, values: &[u64]) -> usize {
+// Puts the first numbers of a row.
+pub fn row(out: &mut Text, taken: usize, values: Row, count: usize) -> usize
+    requires inside { ⌜ count ≤ 7 ⌝ }
+{
     let mut n = taken;
     let mut i = 0;
-    while i < values.len() {
+    while i < count {
         n = number(out, n, values[i]);
         i += 1;
     }

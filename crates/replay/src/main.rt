@@ -13,37 +13,37 @@ mod scripts;
 mod values;
 mod writers;
 
+use cases::Answered;
 use line::Text;
 
-// Says why the answers end before the input does: the next case is too long, or only a part of it is there.
-fn ending(out: &mut Text, taken: usize, kept: usize, long: bool) -> usize {
-    if long {
-        return line::word(out, taken, b"long\n");
-    }
-    if kept > 0 {
-        return line::word(out, taken, b"short\n");
-    }
-    taken
+// Says why the answers end before the input does, if they do: the next case is too long, or only a part of it is there.
+// Then writes what is left of them.
+fn finish(out: &mut Text, answered: Answered, end: usize) {
+    let n = if answered.long {
+        line::word(out, answered.taken, b"long\n")
+    } else if end > answered.used {
+        line::word(out, answered.taken, b"short\n")
+    } else {
+        answered.taken
+    };
+    line::flush(out, n);
 }
 
 // Answers every case. The turns are counted down, from a number that no run uses up, so that the loop ends.
 fn run(input: &mut [u8], out: &mut Text) {
     let mut kept = 0;
     let mut taken = 0;
-    let mut long = false;
-    let mut ended = false;
     let mut turns = u64::MAX;
-    while turns > 0 && !ended {
+    while turns > 0 {
         let end = input::more(input, kept);
         let answered = cases::all(out, taken, &input[0..end]);
+        if answered.long || end == kept {
+            return finish(out, answered, end);
+        }
         taken = answered.taken;
-        long = answered.long;
-        ended = long || end == kept;
         kept = input::keep(input, answered.used, end);
         turns -= 1;
     }
-    let n = ending(out, taken, kept, long);
-    line::flush(out, n);
 }
 
 fn main() {

@@ -1,4 +1,6 @@
 // The table of the ops.
+use crate::argument::rest;
+use crate::argument::u8_at;
 use crate::commands;
 use crate::fields;
 use crate::line;
@@ -6,23 +8,65 @@ use crate::line::Text;
 use crate::readers;
 use crate::scripts;
 use crate::writers;
-use parser::Parser;
+
+// Bytes of a case before its argument: the op and the argument's length.
+pub const HEAD: usize = 5;
 
 // Puts the answer to a case: the lines of a script, or one line.
-pub fn answer(out: &mut Text, taken: usize, op: u8, argument: &[u8]) -> usize {
+pub fn answer(out: &mut Text, taken: usize, case: &[u8]) -> usize {
+    let op = u8_at(case, 0);
+    let argument = rest(case, HEAD);
+    if is_script(op, argument) {
+        scripts::run(
+            out,
+            taken,
+            op,
+            fields::parser(op, argument),
+            rest(argument, fields::script_at(op)),
+        )
+    } else {
+        one_line(out, taken, op, argument)
+    }
+}
+
+// Whether the op is one of scripts, and its argument has a parser if it is op 13.
+fn is_script(op: u8, argument: &[u8]) -> bool {
     match op {
-        10 => scripts::run(out, taken, 10, false, Parser::new(), argument),
-        11 => scripts::run(out, taken, 11, true, Parser::new(), argument),
-        13 => fields::built(out, taken, argument),
-        _ => one_line(out, taken, op, argument),
+        10 => true,
+        11 => true,
+        13 => fields::whole(argument),
+        _ => false,
     }
 }
 
 // Puts the answer of an op that has one line.
 fn one_line(out: &mut Text, taken: usize, op: u8, argument: &[u8]) -> usize {
-    let n = line::decimal(out, taken, op as u64);
-    let n = fields(out, n, op, argument);
+    let n = line::op(out, taken, op);
+    let n = if has_answer(op, argument) {
+        fields(out, n, op, argument)
+    } else {
+        line::none(out, n)
+    };
     line::end(out, n)
+}
+
+// Whether an op of one line is in the table, and the argument is one of its arguments.
+fn has_answer(op: u8, argument: &[u8]) -> bool {
+    let shortest = match op {
+        1 => 1,
+        2 => 0,
+        3 => 0,
+        4 => 2,
+        5 => 0,
+        6 => 9,
+        7 => 42,
+        8 => 8,
+        9 => 0,
+        12 => 2,
+        14 => 23,
+        _ => return false,
+    };
+    argument.len() >= shortest && writers::has_value(op, argument)
 }
 
 // Puts what stands behind the op in its line.
@@ -34,11 +78,9 @@ fn fields(out: &mut Text, taken: usize, op: u8, argument: &[u8]) -> usize {
         4 => readers::replies(out, taken, argument),
         5 => readers::frame(out, taken, argument),
         6 => commands::encode(out, taken, argument),
-        7 => writers::report(out, taken, argument),
-        8 => writers::ack(out, taken, argument),
         9 => commands::read(out, taken, argument),
         12 => commands::baud(out, taken, argument),
         14 => readers::replies_of_built(out, taken, argument),
-        _ => line::none(out, taken),
+        _ => writers::write(out, taken, op, argument),
     }
 }

@@ -1,40 +1,34 @@
 // Ops 1 to 5 and 14: the readers of reports, acknowledgements and whole frames, and the replies of an acknowledgement.
 // Each puts the numbers that stand behind its op.
 use crate::argument::flag_at;
+use crate::argument::rest;
 use crate::argument::u8_at;
 use crate::argument::u16_at;
 use crate::argument::usize_at;
 use crate::line::Text;
-use crate::line::bytes;
-use crate::line::none;
 use crate::line::number;
+use crate::line::row;
 use crate::replies;
 use crate::values;
 use ack::Ack;
 use ack::AckResult;
-use ack::Span;
 use frame::Frame;
 use report::Report;
+use span::Span;
 use target_state::TargetState;
-
-// Bytes of an argument of op 14 before those that the payload stands in.
-const BUILT_ACK_LEN: usize = 23;
 
 // Op 1, on a byte.
 pub fn target_state(out: &mut Text, taken: usize, argument: &[u8]) -> usize {
-    if argument.len() == 0 {
-        return none(out, taken);
-    }
-    values::target_state(out, taken, TargetState::from_byte(u8_at(argument, 0)))
+    let state = TargetState::from_byte(u8_at(argument, 0));
+    row(out, taken, values::target_state(state), 4)
 }
 
 // Op 2, on a report's data.
 pub fn report(out: &mut Text, taken: usize, data: &[u8]) -> usize {
     let read = Report::parse(data);
     let outcome = read.outcome;
-    let report = read.report;
     let n = number(out, taken, outcome.number() as u64);
-    values::report(out, n, report)
+    values::report(out, n, read.report)
 }
 
 // Op 3, on an acknowledgement's data.
@@ -42,25 +36,21 @@ pub fn ack(out: &mut Text, taken: usize, data: &[u8]) -> usize {
     match Ack::parse(data) {
         AckResult::Ok(ack) => {
             let n = number(out, taken, 0);
-            values::ack(out, n, ack)
+            row(out, n, values::ack(ack), 5)
         }
-        AckResult::Err(e) => bytes(out, taken, &[e.number(), 0, 0, 0, 0, 0]),
+        AckResult::Err(e) => row(out, taken, [e.number() as u64, 0, 0, 0, 0, 0, 0], 6),
     }
 }
 
 // Op 4, on an awaited word and an acknowledgement's data.
 pub fn replies(out: &mut Text, taken: usize, argument: &[u8]) -> usize {
-    if argument.len() < 2 {
-        return none(out, taken);
-    }
-    let awaited = u16_at(argument, 0);
-    let data = &argument[2..];
+    let data = rest(argument, 2);
     match Ack::parse(data) {
         AckResult::Ok(ack) => {
             let n = number(out, taken, 0);
-            replies::all(out, n, ack, awaited, data)
+            replies::all(out, n, ack, u16_at(argument, 0), data)
         }
-        AckResult::Err(e) => bytes(out, taken, &[e.number()]),
+        AckResult::Err(e) => number(out, taken, e.number() as u64),
     }
 }
 
@@ -68,17 +58,24 @@ pub fn replies(out: &mut Text, taken: usize, argument: &[u8]) -> usize {
 pub fn frame(out: &mut Text, taken: usize, data: &[u8]) -> usize {
     let read = Frame::parse(data);
     let outcome = read.outcome;
-    let frame = read.frame;
     let n = number(out, taken, outcome.number() as u64);
-    values::frame(out, n, frame)
+    values::frame(out, n, read.frame)
 }
 
 // Op 14, on the fields of an acknowledgement, an awaited word and the bytes that the payload stands in.
 pub fn replies_of_built(out: &mut Text, taken: usize, argument: &[u8]) -> usize {
-    if argument.len() < BUILT_ACK_LEN {
-        return none(out, taken);
-    }
-    let ack = Ack {
+    replies::all(
+        out,
+        taken,
+        ack_in(argument),
+        u16_at(argument, 21),
+        rest(argument, 23),
+    )
+}
+
+// The acknowledgement with the fields.
+fn ack_in(argument: &[u8]) -> Ack {
+    Ack {
         word: u16_at(argument, 0),
         ok: flag_at(argument, 2),
         status: u16_at(argument, 3),
@@ -86,7 +83,5 @@ pub fn replies_of_built(out: &mut Text, taken: usize, argument: &[u8]) -> usize 
             start: usize_at(argument, 5),
             len: usize_at(argument, 13),
         },
-    };
-    let awaited = u16_at(argument, 21);
-    replies::all(out, taken, ack, awaited, &argument[BUILT_ACK_LEN..])
+    }
 }

@@ -1,49 +1,50 @@
 // What an acknowledgement answers: `expect` of a word and the four replies, each its refusal and then its fields.
+use crate::line::Row;
 use crate::line::Text;
 use crate::line::bytes;
-use crate::line::numbers;
+use crate::line::number;
+use crate::line::row;
+use crate::values::gates;
 use ack::Ack;
 use ack::SpanResult;
+use parameters::ParametersResult;
 use reply::EnableConfigResult;
 use reply::FirmwareVersionResult;
 use reply::MacResult;
-use reply::ParametersResult;
 
 // `expect` of the awaited word, then the replies, on an acknowledgement and the bytes that its payload stands in.
 pub fn all(out: &mut Text, taken: usize, ack: Ack, awaited: u16, data: &[u8]) -> usize {
-    let n = span(out, taken, ack.expect(awaited));
-    let n = enable_config(out, n, ack.enable_config(data));
-    let n = firmware_version(out, n, ack.firmware_version(data));
+    let n = row(out, taken, span(ack.expect(awaited)), 3);
+    let n = row(out, n, enable_config(ack.enable_config(data)), 3);
+    let n = row(out, n, firmware_version(ack.firmware_version(data)), 4);
     let n = mac(out, n, ack.mac(data));
     parameters(out, n, ack.parameters(data))
 }
 
-fn span(out: &mut Text, taken: usize, reply: SpanResult) -> usize {
+fn span(reply: SpanResult) -> Row {
     match reply {
-        SpanResult::Ok(s) => numbers(out, taken, &[0, s.start as u64, s.len as u64]),
-        SpanResult::Err(e) => bytes(out, taken, &[e.number(), 0, 0]),
+        SpanResult::Ok(s) => [0, s.start as u64, s.len as u64, 0, 0, 0, 0],
+        SpanResult::Err(e) => [e.number() as u64, 0, 0, 0, 0, 0, 0],
     }
 }
 
-fn enable_config(out: &mut Text, taken: usize, reply: EnableConfigResult) -> usize {
+fn enable_config(reply: EnableConfigResult) -> Row {
     match reply {
-        EnableConfigResult::Ok(c) => numbers(
-            out,
-            taken,
-            &[0, c.protocol_version as u64, c.buffer_size as u64],
-        ),
-        EnableConfigResult::Err(e) => bytes(out, taken, &[e.number(), 0, 0]),
+        EnableConfigResult::Ok(c) => {
+            let version = c.protocol_version as u64;
+            [0, version, c.buffer_size as u64, 0, 0, 0, 0]
+        }
+        EnableConfigResult::Err(e) => [e.number() as u64, 0, 0, 0, 0, 0, 0],
     }
 }
 
-fn firmware_version(out: &mut Text, taken: usize, reply: FirmwareVersionResult) -> usize {
+fn firmware_version(reply: FirmwareVersionResult) -> Row {
     match reply {
-        FirmwareVersionResult::Ok(v) => numbers(
-            out,
-            taken,
-            &[0, v.firmware_type as u64, v.major as u64, v.minor as u64],
-        ),
-        FirmwareVersionResult::Err(e) => bytes(out, taken, &[e.number(), 0, 0, 0]),
+        FirmwareVersionResult::Ok(v) => {
+            let kind = v.firmware_type as u64;
+            [0, kind, v.major as u64, v.minor as u64, 0, 0, 0]
+        }
+        FirmwareVersionResult::Err(e) => [e.number() as u64, 0, 0, 0, 0, 0, 0],
     }
 }
 
@@ -51,7 +52,7 @@ fn mac(out: &mut Text, taken: usize, reply: MacResult) -> usize {
     let outcome = reply.outcome;
     let mac = reply.mac;
     let address = mac.0;
-    let n = bytes(out, taken, &[outcome.number()]);
+    let n = number(out, taken, outcome.number() as u64);
     bytes(out, n, &address)
 }
 
@@ -60,17 +61,10 @@ fn parameters(out: &mut Text, taken: usize, reply: ParametersResult) -> usize {
     let p = reply.parameters;
     let moving = p.moving_sensitivity;
     let stationary = p.stationary_sensitivity;
-    let n = bytes(
-        out,
-        taken,
-        &[
-            outcome.number(),
-            p.max_gate,
-            p.max_moving_gate,
-            p.max_stationary_gate,
-        ],
-    );
-    let n = bytes(out, n, &moving);
-    let n = bytes(out, n, &stationary);
-    numbers(out, n, &[p.no_one_secs as u64, p.gates() as u64])
+    let farthest = [p.max_gate, p.max_moving_gate, p.max_stationary_gate];
+    let n = number(out, taken, outcome.number() as u64);
+    let n = bytes(out, n, &farthest);
+    let n = gates(out, n, moving, stationary);
+    let n = number(out, n, p.no_one_secs as u64);
+    number(out, n, p.gates() as u64)
 }

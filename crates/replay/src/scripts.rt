@@ -1,32 +1,25 @@
-// Ops 10, 11 and 13: a script of calls on one parser, handed on from call to call by value, or in op 11 lent to each.
-// Each call puts a line, and a closing line follows.
+// Ops 10, 11 and 13: a script of calls on one parser, handed on from call to call. Its feeds lend the parser; in op 11
+// its resets do too. Each call puts a line, and a closing line follows.
 use crate::argument::u8_at;
 use crate::argument::u16_at;
 use crate::line;
+use crate::line::Row;
 use crate::line::Text;
 use crate::values;
-use ack::Span;
 use feeding::Taken;
 use frame::Frame;
+use number::least;
 use parser::FedSlice;
 use parser::Parser;
-use parser::feed_lent;
-use parser::feed_slice_lent;
 use parser::reset_lent;
+use span::Span;
 use wire::MAX_FRAME;
-use wire::least;
 ghost use Prim.Native.Nat.{_≤_};
 ghost use lib.ListN.{length};
 
-// Makes the calls of a script, by value or on a parser that is lent, up to one that is cut short or has no meaning.
-pub fn run(
-    out: &mut Text,
-    taken: usize,
-    op: u8,
-    lent: bool,
-    parser: Parser,
-    script: &[u8],
-) -> usize {
+// Makes the calls of a script, its resets by value or on a parser that is lent, up to one that is cut short or has no
+// meaning.
+pub fn run(out: &mut Text, taken: usize, op: u8, parser: Parser, script: &[u8]) -> usize {
     let mut now = parser;
     let mut n = taken;
     let mut at = 0;
@@ -36,12 +29,9 @@ pub fn run(
             return closing(out, n, op, now);
         }
         let end = at + size;
-        let fed = call(lent, now, &script[at..end]);
-        let next = fed.parser;
-        let buf = next.buf;
-        let answer = fed.answer;
-        n = answered(out, n, op, answer, &buf);
-        now = next;
+        let fed = call(op == 11, now, &script[at..end]);
+        n = answered(out, n, op, fed);
+        now = fed.parser;
         at = end;
     }
 }
@@ -68,8 +58,8 @@ fn call_size(script: &[u8]) -> usize
 // Makes the call that these bytes are.
 fn call(lent: bool, parser: Parser, bytes: &[u8]) -> FedSlice {
     match u8_at(bytes, 0) {
-        0 => fed(lent, parser, u8_at(bytes, 1)),
-        1 => fed_slice(lent, parser, &bytes[least(3, bytes.len())..]),
+        0 => fed(parser, u8_at(bytes, 1)),
+        1 => parser.fed_slice(&bytes[least(3, bytes.len())..]),
         _ => FedSlice {
             parser: cleared(lent, parser),
             answer: Taken {
@@ -81,26 +71,13 @@ fn call(lent: bool, parser: Parser, bytes: &[u8]) -> FedSlice {
 }
 
 // Feeds a byte.
-fn fed(lent: bool, parser: Parser, byte: u8) -> FedSlice {
-    let fed = if lent {
-        feed_lent(parser, byte)
-    } else {
-        parser.fed(byte)
-    };
+fn fed(parser: Parser, byte: u8) -> FedSlice {
+    let fed = parser.fed(byte);
     let after = fed.parser;
     let frame = fed.answer;
     FedSlice {
         parser: after,
         answer: Taken { count: 1, frame },
-    }
-}
-
-// Feeds a slice.
-fn fed_slice(lent: bool, parser: Parser, bytes: &[u8]) -> FedSlice {
-    if lent {
-        feed_slice_lent(parser, bytes)
-    } else {
-        parser.fed_slice(bytes)
     }
 }
 
@@ -114,15 +91,21 @@ fn cleared(lent: bool, parser: Parser) -> Parser {
 }
 
 // Puts the line of a call: its answer, then an acknowledgement's payload as it stands in the parser's buffer.
-fn answered(out: &mut Text, taken: usize, op: u8, answer: Taken, buf: &[u8; MAX_FRAME]) -> usize {
-    let frame = answer.frame;
-    let ack = frame.ack;
-    let span = ack.payload;
-    let n = line::decimal(out, taken, op as u64);
+fn answered(out: &mut Text, taken: usize, op: u8, fed: FedSlice) -> usize {
+    let parser = fed.parser;
+    let buf = parser.buf;
+    let answer = fed.answer;
+    let n = line::op(out, taken, op);
     let n = line::number(out, n, answer.count as u64);
-    let n = values::frame(out, n, frame);
-    let n = payload(out, n, span, buf);
+    let n = framed(out, n, answer.frame, &buf);
     line::end(out, n)
+}
+
+// Puts a frame and the bytes of its payload.
+fn framed(out: &mut Text, taken: usize, frame: Frame, buf: &[u8; MAX_FRAME]) -> usize {
+    let ack = frame.ack;
+    let n = values::frame(out, taken, frame);
+    payload(out, n, ack.payload, buf)
 }
 
 // Puts the bytes of a payload, as far as they lie in the buffer.
@@ -133,20 +116,23 @@ fn payload(out: &mut Text, taken: usize, span: Span, buf: &[u8; MAX_FRAME]) -> u
     line::bytes(out, taken, &all[start..end])
 }
 
-// Puts the closing line: the counters, and the length of the frame in progress.
+// Puts the closing line.
 fn closing(out: &mut Text, taken: usize, op: u8, parser: Parser) -> usize {
-    let stats = parser.stats();
-    let n = line::decimal(out, taken, op as u64);
-    let n = line::numbers(
-        out,
-        n,
-        &[
-            stats.frames as u64,
-            stats.resyncs as u64,
-            stats.dropped as u64,
-            stats.malformed as u64,
-            parser.unfinished() as u64,
-        ],
-    );
+    let n = line::op(out, taken, op);
+    let n = line::row(out, n, counters(parser), 5);
     line::end(out, n)
+}
+
+// The counters, and the length of the frame in progress.
+fn counters(parser: Parser) -> Row {
+    let stats = parser.stats();
+    [
+        stats.frames as u64,
+        stats.resyncs as u64,
+        stats.dropped as u64,
+        stats.malformed as u64,
+        parser.unfinished() as u64,
+        0,
+        0,
+    ]
 }

@@ -3,11 +3,10 @@ use mathlib.Core.Path.{_≡_, refl}
 use Rattle.refusal.specs.declared.Outcome.{Outcome}
 use Rattle.refusal.specs.declared.Outcome.the-variants.{Ok, Err}
 use Rattle.reply.specs.Replies.{enableConfigAs, outcomeOfEnableConfig, firmwareAs, outcomeOfFirmware}
-use Rattle.reply.specs.Replies.{parametersAs, macAs}
+use Rattle.reply.specs.Replies.{macAs}
 use Rattle.reply.specs.declared.EnableConfig.{EnableConfig}
 use Rattle.reply.specs.declared.FirmwareVersion.{FirmwareVersion}
 use Rattle.reply.specs.declared.Mac.{Mac}
-use Rattle.reply.specs.declared.Parameters.{Parameters}
 
 pub enable-config-outcome : (o : Outcome) (v : EnableConfig) → outcomeOfEnableConfig (enableConfigAs o v) ≡ o
 enable-config-outcome Ok v = refl
@@ -20,7 +19,3 @@ firmware-outcome (Err e) v = refl
 pub mac-outcome : (o : Outcome) (v : Mac) → macAs o v .outcome ≡ o
 mac-outcome Ok v = refl
 mac-outcome (Err e) v = refl
-
-pub parameters-outcome : (o : Outcome) (v : Parameters) → parametersAs o v .outcome ≡ o
-parameters-outcome Ok v = refl
-parameters-outcome (Err e) v = refl

@@ -1,17 +1,14 @@
-// What an acknowledgement's payload holds, by the command that it answers: reading the four replies, and the accessors.
+// What an acknowledgement's payload holds, by the command that it answers: reading three of the four replies. The crate
+// `parameters` has the fourth.
+use byte_string::copy_prefix;
+use number::MaybeU8;
+use number::MaybeU16;
+use number::MaybeU32;
+use number::byte_at;
+use number::le16;
+use number::le32;
 use refusal::Error;
 use refusal::Outcome;
-use wire::GATES;
-use wire::MaybeU8;
-use wire::MaybeU16;
-use wire::MaybeU32;
-use wire::byte_at;
-use wire::copy_prefix;
-use wire::le16;
-use wire::le32;
-
-mod parameter;
-
 ghost use mathlib.Core.Path.{_≡_};
 ghost use Rattle.refusal.specs.declared.Outcome.the-variants as Outcome;
 ghost use Rattle.reply.specs.Reply.{readAs};
@@ -46,26 +43,6 @@ pub enum FirmwareVersionResult {
     Err(Error),
 }
 
-// What the command `READ_PARAMETERS` returns.
-pub struct Parameters {
-    // The highest gate that the module has.
-    pub max_gate: u8,
-    // The configured farthest gates.
-    pub max_moving_gate: u8,
-    pub max_stationary_gate: u8,
-    // By gate, gate 0 first; the first `gates()` are valid.
-    pub moving_sensitivity: [u8; GATES],
-    pub stationary_sensitivity: [u8; GATES],
-    // How long the module waits, without a target, before it reports that no one is there.
-    pub no_one_secs: u16,
-}
-
-// Every field of the parameters is 0 beside a refusal.
-pub struct ParametersResult {
-    pub outcome: Outcome,
-    pub parameters: Parameters,
-}
-
 // What the command `READ_MAC` returns: six address bytes in transmission order.
 pub struct Mac(pub [u8; 6]);
 
@@ -73,20 +50,6 @@ pub struct Mac(pub [u8; 6]);
 pub struct MacResult {
     pub outcome: Outcome,
     pub mac: Mac,
-}
-
-// The four bytes that a parameters payload begins with.
-struct Fixed {
-    head: u8,
-    max_gate: u8,
-    max_moving_gate: u8,
-    max_stationary_gate: u8,
-}
-
-// The four bytes, if they are there.
-enum MaybeFixed {
-    Some(Fixed),
-    None,
 }
 
 impl EnableConfig {

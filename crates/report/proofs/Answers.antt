@@ -1,21 +1,28 @@
--- The reader's answer by the checks, one after another.
+-- The reader's answer by the layout, and by the checks behind it.
 use mathlib.Core.Path.{_≡_, refl}
 use mathlib.Core.List.{List}
 use mathlib.Core.Bool.{true, false}
-use Prim.Native.Nat.{ℕ, _-_, _≤_, _<_}
-use native.Mathlib.Omega.{arith}
-use lib.ListN.{length, getD, take, drop}
-use borrow.Author.Tests.{le-leb, lt-leb, eq-eqb, ne-eqb}
+use Prim.Native.Nat.{ℕ}
+use lib.ListN.{length}
+use borrow.Author.Tests.{eq-eqb, ne-eqb}
 use Rattle.refusal.specs.Check.{firstFailed, Causes}
 use Rattle.refusal.proofs.Checks.{causes}
-use Rattle.refusal.specs.declared.Check.the-variants.{R1, R2, R3, R4, R5, R6, R7, R8}
+use Rattle.refusal.specs.declared.Check.{Check}
+use Rattle.refusal.specs.declared.Check.the-variants.{R6, R7, R8}
 use Rattle.refusal.specs.declared.MaybeCheck.{MaybeCheck}
 use Rattle.refusal.specs.declared.MaybeCheck.the-variants.{Some, None}
-use Rattle.engineering.specs.Block.{fits, engineeringOf, noEngineering}
-use Rattle.report.specs.Report.{dataType, body, block, basicOf, reportWith, reportOf}
-use Rattle.report.specs.Check.{r4, reportChecks, passing, failing}
+use Rattle.gates.specs.Gates.{fits}
+use Rattle.engineering.specs.Block.{engineeringOf, noEngineering}
+use Rattle.basic.specs.Basic.{basicOf}
+use Rattle.basic.specs.declared.Basic.{Basic}
+use Rattle.layout.specs.Layout.{dataType, body, block}
+use Rattle.layout.specs.Check.{reportChecks, checkedLayout}
+use Rattle.layout.specs.declared.Layout.{Layout}
+use Rattle.layout.specs.declared.CheckedLayout.the-variants.{Ok, Failed}
+use Rattle.layout.proofs.Layouts.{first-failed, first-later}
+use Rattle.report.specs.Report.{reportWith, reportOf}
+use Rattle.report.specs.Check.{passing, failing}
 use Rattle.report.specs.Check.{checkedAs, checkedReport, completedReport, parsedReport}
-use Rattle.report.specs.declared.Basic.{Basic}
 use Rattle.report.specs.declared.Report.{Report}
 
 -- The check that an answer names.
@@ -32,52 +39,16 @@ pub parsed-causes : (s : List ℕ) → Causes reportChecks s (parsedReport s .ou
 unfolding parsedReport
 parsed-causes s = rw (checked-failed s) (causes reportChecks s)
 
--- The body, as the code cuts it out.
-pub body-part : (s : List ℕ) → take (length s - 2 - 2) (drop 2 s) ≡ body s
-body-part s = let e : length s - 2 - 2 ≡ length s - 4 = omega arith in rw e
-
--- R1 to R5, each behind those before it.
+-- By what the layout is read as.
 module _ (s : List ℕ) where
-  pub fails-R1 : length s < 2 → checkedReport s ≡ failing R1
+  pub layout-fails : (c : Check) → checkedLayout s ≡ Failed c → checkedReport s ≡ failing c
   unfolding checkedReport
-  fails-R1 h = rw (lt-leb 2 (length s) h)
+  layout-fails c e = rw (first-failed s c e)
 
-  pub fails-R2 : 2 ≤ length s → (getD s 1 0 ≡ 0xAA → ⊥) → checkedReport s ≡ failing R2
-  unfolding checkedReport
-  fails-R2 two h = rw (le-leb 2 (length s) two, ne-eqb (getD s 1 0) 0xAA h)
-
-  pub fails-R3 : 2 ≤ length s → getD s 1 0 ≡ 0xAA → length s < 4 → checkedReport s ≡ failing R3
-  unfolding checkedReport
-  fails-R3 two head h = rw (le-leb 2 (length s) two, eq-eqb (getD s 1 0) 0xAA head, lt-leb 4 (length s) h)
-
-  module _ (four : 4 ≤ length s) (head : getD s 1 0 ≡ 0xAA) where
-    pub fails-R4 : r4 s ≡ false → checkedReport s ≡ failing R4
-    unfolding checkedReport
-    fails-R4 e =
-        rw (le-leb 2 (length s) (omega arith), eq-eqb (getD s 1 0) 0xAA head, le-leb 4 (length s) four, e)
-
-    pub fails-R5 : r4 s ≡ true → length (body s) < 9 → checkedReport s ≡ failing R5
-    unfolding checkedReport
-    fails-R5 e h =
-        rw (
-          le-leb 2 (length s) (omega arith),
-          eq-eqb (getD s 1 0) 0xAA head,
-          le-leb 4 (length s) four,
-          e,
-          lt-leb 9 (length (body s)) h,
-        )
-
-    pub completes : r4 s ≡ true → 9 ≤ length (body s)
-        → checkedReport s ≡ completedReport (basicOf (body s)) (dataType s) (block s)
-    unfolding checkedReport completedReport reportOf
-    completes e h =
-        rw (
-          le-leb 2 (length s) (omega arith),
-          eq-eqb (getD s 1 0) 0xAA head,
-          le-leb 4 (length s) four,
-          e,
-          le-leb 9 (length (body s)) h,
-        )
+  pub completes : (v : Layout) → checkedLayout s ≡ Ok v
+      → checkedReport s ≡ completedReport (basicOf (body s)) (dataType s) (block s)
+  unfolding checkedReport completedReport reportOf
+  completes v e = rw (first-later s v e)
 
 -- R6 to R8.
 module _ (f : Basic) (t : ℕ) (b : List ℕ) where

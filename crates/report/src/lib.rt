@@ -1,32 +1,32 @@
 // Reports of the LD2410: reading them from a report frame's data, and the targets that they tell.
 //
 // `Option<Engineering>` of the Rust is a flag beside the block, whose fields are all 0 where the flag is off.
+use basic::Basic;
 use engineering::Engineering;
 use engineering::no_engineering;
+use layout::CheckedLayout;
+use layout::Layout;
 use refusal::Check;
 use refusal::MaybeCheck;
 use refusal::Outcome;
 use target_state::TargetState;
-use wire::MaybeU8;
-use wire::byte_at;
-use wire::same;
 
-mod basic_bytes;
 mod targets;
 
 ghost use mathlib.Core.Path.{_≡_};
 ghost use Rattle.refusal.specs.Check.{Causes};
-ghost use Rattle.report.specs.Report.{noReport};
-ghost use Rattle.report.specs.Check.{reportChecks, passing, failing, checkedReport, parsedReport};
+ghost use Rattle.report.specs.Report.{reportWith, noReport};
+ghost use Rattle.layout.specs.Check.{reportChecks};
+ghost use Rattle.report.specs.Check.{passing, failing, checkedReport, completedReport, parsedReport};
 
-// Report data: the fixed head byte after the data type.
-pub const REPORT_HEAD: u8 = 0xAA;
+// Where the bytes behind the basic ones start in the data of a report frame.
+const BLOCK_AT: usize = 11;
 
-// Report data: the two bytes at the end.
-pub const REPORT_TRAILER: [u8; 2] = [0x55, 0x00];
+// The data type of an engineering report.
+const DATA_TYPE_ENGINEERING: u8 = 0x01;
 
-// Bytes of the basic part: state; moving distance and energy; stationary distance and energy; detection distance.
-const BASIC_LEN: usize = 9;
+// The data type of a basic report.
+const DATA_TYPE_BASIC: u8 = 0x02;
 
 // One detected target: its distance and energy.
 pub struct Target {
@@ -64,22 +64,6 @@ pub struct ReportResult {
     pub report: Report,
 }
 
-// The nine basic bytes of a report, as they are sent.
-struct Basic {
-    state: u8,
-    moving_distance_cm: u16,
-    moving_energy: u8,
-    stationary_distance_cm: u16,
-    stationary_energy: u8,
-    detection_distance_cm: u16,
-}
-
-// The basic bytes, if they are all there.
-enum MaybeBasic {
-    Some(Basic),
-    None,
-}
-
 impl CheckedReport {
     // Every check holds.
     fn passing(report: Report) -> Self
@@ -100,35 +84,62 @@ impl CheckedReport {
             report: no_report(),
         }
     }
+
+    // Completes the report by its type and the bytes behind the basic ones: checks R6 to R8.
+    fn completed(basic: Basic, data_type: u8, block: &[u8]) -> Self
+        ensures checked { λ r. ⌜ r ≡ completedReport basic data_type (now (block .entry)) ⌝ }
+    {
+        match data_type {
+            DATA_TYPE_ENGINEERING => {
+                let read = Engineering::parse(block);
+                if read.fits {
+                    let engineering = read.engineering;
+                    CheckedReport::passing(Report::made(basic, true, engineering))
+                } else {
+                    CheckedReport::failing(Check::R8)
+                }
+            }
+            DATA_TYPE_BASIC => {
+                if block.len() == 0 {
+                    CheckedReport::passing(Report::made(basic, false, no_engineering()))
+                } else {
+                    CheckedReport::failing(Check::R7)
+                }
+            }
+            _ => CheckedReport::failing(Check::R6),
+        }
+    }
 }
 
 impl Report {
+    // The report of the basic fields, with an engineering part or with one that is all 0.
+    fn made(basic: Basic, has_engineering: bool, engineering: Engineering) -> Self
+        ensures made { λ r. ⌜ r ≡ reportWith basic «has_engineering» engineering ⌝ }
+    {
+        Report {
+            state: TargetState::from_byte(basic.state),
+            moving_distance_cm: basic.moving_distance_cm,
+            moving_energy: basic.moving_energy,
+            stationary_distance_cm: basic.stationary_distance_cm,
+            stationary_energy: basic.stationary_energy,
+            detection_distance_cm: basic.detection_distance_cm,
+            has_engineering,
+            engineering,
+        }
+    }
+
     // Reads the data of a report frame, all between its length and its tail, by the checks R1 to R8 in this order.
     pub fn checked(data: &[u8]) -> CheckedReport
         ensures checked { λ r. ⌜ r ≡ checkedReport (now («data» .entry)) ⌝ }
     {
-        let MaybeU8::Some(data_type) = byte_at(data, 0) else {
-            return CheckedReport::failing(Check::R1);
-        };
-        let MaybeU8::Some(head) = byte_at(data, 1) else {
-            return CheckedReport::failing(Check::R1);
-        };
-        if head != REPORT_HEAD {
-            return CheckedReport::failing(Check::R2);
+        match Layout::checked(data) {
+            CheckedLayout::Ok(layout) => {
+                let basic = layout.basic;
+                let end = data.len() - 2;
+                CheckedReport::completed(basic, layout.data_type, &data[BLOCK_AT..end])
+            }
+            CheckedLayout::Failed(check) => CheckedReport::failing(check),
         }
-        if data.len() < 4 {
-            return CheckedReport::failing(Check::R3);
-        }
-        let end = data.len() - 2;
-        let trailer = REPORT_TRAILER;
-        if !same(&data[end..], &trailer) {
-            return CheckedReport::failing(Check::R4);
-        }
-        let body = &data[2..end];
-        let MaybeBasic::Some(basic) = Basic::read(body) else {
-            return CheckedReport::failing(Check::R5);
-        };
-        basic.completed(data_type, &body[BASIC_LEN..])
     }
 
     // Reads the data of a report frame. Refused with 2 where R6 is the first check that fails, with 1 where another is.

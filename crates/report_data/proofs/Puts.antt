@@ -13,10 +13,10 @@ use Rattle.engineering.specs.declared.Engineering.{Engineering}
 use Rattle.report.specs.declared.Report.{Report}
 use Rattle.report_data.specs.Data.{highestGates, movingEnergies, stationaryEnergies, reservedBytes, blockOf}
 use Rattle.report_data.specs.Data.{frontOf, blockIf, trailer, reportData}
-use Rattle.report_data.specs.Writable.{writableIf, writable}
+use Rattle.writable.specs.Writable.{writableIf, writable}
 use Rattle.report_data.specs.Laid.{laidIf, laidOf}
 use Rattle.report_data.specs.declared.LaidReport.{LaidReport}
-use Rattle.report_data.proofs.Counts.{Within, within-sound}
+use Rattle.writable.proofs.Counts.{Within, within-sound}
 use Rattle.report_data.proofs.Typed.{TypedBlock, TypedReport}
 
 -- What stands at the front of a buffer is written there.

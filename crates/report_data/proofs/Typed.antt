@@ -12,7 +12,7 @@ use denote.Shadow.{shadow}
 use denote.Plain.{UInt}
 use denote.Array.{Array, each}
 use denote.Struct.Declared.{row}
-use Rattle.wire.specs.Bytes.{Bytes}
+use Rattle.number.specs.Bytes.{Bytes}
 use Rattle.engineering.specs.declared.Engineering.{Engineering}
 use Rattle.report.specs.declared.Report.{Report}
 use Rattle.engineering.proofs.Engineering as E

@@ -14,7 +14,7 @@ use mathlib.Core.List.{List, [], _∷_, _++_}
 use mathlib.Core.Bool.{Bool, true, false}
 use Prim.Native.Nat.{ℕ, _-_}
 use lib.ListN.{take}
-use Rattle.wire.specs.Number.{leBytes}
+use Rattle.number.specs.Number.{leBytes}
 use Rattle.wire.specs.Family.{framed}
 use Rattle.wire.specs.declared.Kind.the-variants as Family
 use Rattle.target_state.specs.State.{byteOf}

@@ -6,7 +6,7 @@ use lib.ListN.{length, replicate}
 use Rattle.writer.specs.Written.{written}
 use Rattle.report.specs.declared.Report.{Report}
 use Rattle.report_data.specs.Data.{reportData}
-use Rattle.report_data.specs.Writable.{writable}
+use Rattle.writable.specs.Writable.{writable}
 use Rattle.report_data.specs.declared.LaidReport.{LaidReport}
 
 abbrev pub laidIf : Bool → Report → LaidReport

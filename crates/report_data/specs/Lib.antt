@@ -1,3 +1,2 @@
 pub mod Data
-pub mod Writable
 pub mod Laid

@@ -1,28 +1,23 @@
-// A report as a frame's data: which reports can be written, and the bytes that they are written as.
+// A report as a frame's data: the bytes that it is written as, where it can be written.
 use engineering::Engineering;
+use layout::REPORT_HEAD;
+use layout::REPORT_TRAILER;
 use put::put;
 use put::u16_bytes;
-use report::REPORT_HEAD;
-use report::REPORT_TRAILER;
 use report::Report;
+use writable::is_writable;
 ghost use mathlib.Core.Path.{_≡_};
-ghost use mathlib.Core.Bool.{true, false};
+ghost use mathlib.Core.Bool.{true};
 ghost use Prim.Native.Nat.{_+_, _≤_};
-ghost use lib.ListN.{length, take, drop};
+ghost use lib.ListN.{length, take};
 ghost use Rattle.put.specs.Put.{putIn};
 ghost use Rattle.writer.specs.Written.{written};
+ghost use Rattle.writable.specs.Writable.{writableIf, writable};
 ghost use Rattle.report_data.specs.Data.{typeOf, frontOf, blockIf, reportData};
-ghost use Rattle.report_data.specs.Writable.{allZero, counted, within, writableIf, writable};
 ghost use Rattle.report_data.specs.Laid.{laidOf};
 
 // Data type, head byte and the nine basic bytes: what stands in front of the engineering block.
 const FRONT_LEN: usize = 11;
-// Fewest gates of a kind that an engineering block reports.
-const MIN_GATES: u8 = 1;
-// Most gates of a kind that it reports.
-const MAX_GATES: u8 = 9;
-// Most reserved bytes that the reader keeps.
-const MAX_RESERVED: u8 = 8;
 // Most data bytes of a report: the front, two counts, nine energies of each, eight reserved bytes, the two at the end.
 const MAX_REPORT: usize = 41;
 
@@ -31,61 +26,6 @@ pub struct LaidReport {
     pub writable: bool,
     pub bytes: [u8; MAX_REPORT],
     pub len: usize,
-}
-
-// Whether the entries from a place on are all 0.
-fn zero_from(s: &[u8], from: usize) -> bool
-    ensures tested { λ r. ⌜ r ≡ allZero (drop from (now (s .entry))) ⌝ }
-{
-    let mut i = from;
-    while i < s.len() {
-        if s[i] != 0 {
-            return false;
-        }
-        i += 1;
-    }
-    true
-}
-
-// Whether the count is within two bounds, and the entries past it are all 0.
-fn is_counted(s: &[u8], count: u8, least: u8, most: u8) -> bool
-    ensures tested { λ r. ⌜ r ≡ counted least most count (now (s .entry)) ⌝ }
-{
-    if count < least {
-        return false;
-    }
-    if most < count {
-        return false;
-    }
-    zero_from(s, count as usize)
-}
-
-// Whether each count of energies is within two bounds, that of reserved bytes at most a third, and what is past them 0.
-fn is_within(e: Engineering, least: u8, gates: u8, extra: u8) -> bool
-    ensures tested { λ r. ⌜ r ≡ within least gates extra e ⌝ }
-{
-    let m = e.moving_energy;
-    if !is_counted(&m, e.moving_gates, least, gates) {
-        return false;
-    }
-    let s = e.stationary_energy;
-    if !is_counted(&s, e.stationary_gates, least, gates) {
-        return false;
-    }
-    let x = e.extra;
-    is_counted(&x, e.extra_len, 0, extra)
-}
-
-// Whether the reader can give the report, with at most eight reserved bytes.
-fn is_writable(report: Report) -> bool
-    ensures tested { λ r. ⌜ r ≡ writable report ⌝ }
-{
-    let e = report.engineering;
-    if report.has_engineering {
-        is_within(e, MIN_GATES, MAX_GATES, MAX_RESERVED)
-    } else {
-        is_within(e, 0, 0, 0)
-    }
 }
 
 // The data type, by whether there is an engineering block.

@@ -6,19 +6,21 @@ use Prim.Native.Nat.{ℕ, _-_}
 use lib.ListN.{length, getD, drop}
 use Rattle.wire.specs.Family.{framed}
 use Rattle.wire.specs.declared.Kind.the-variants as Family
-use Rattle.wire.specs.Bytes.{Bytes}
+use Rattle.number.specs.Bytes.{Bytes}
 use Rattle.put.proofs.Bytes.{bytes-take, bytes-drop}
 use Rattle.target_state.specs.State.{stateOf, byteOf}
 use Rattle.engineering.specs.Block.{engineeringOf}
-use Rattle.report.specs.Report.{dataType, body, block, basicOf, isEngineering, reportBy, reportOf}
+use Rattle.basic.specs.Basic.{basicOf}
+use Rattle.layout.specs.Layout.{dataType, body, block, isEngineering}
+use Rattle.report.specs.Report.{reportBy, reportOf}
 use Rattle.report.specs.declared.Report.{Report}
-use Rattle.frame.specs.Frame.{announced, dataOf}
+use Rattle.envelope.specs.Envelope.{announced, dataOf}
 use Rattle.report_data.specs.Data.{typeOf, basicBytes, blockIf, frontOf, reportData, trailer}
-use Rattle.report_data.specs.Writable.{allZero, counted, within, writable}
+use Rattle.writable.specs.Writable.{allZero, counted, within, writable}
 use Rattle.report_writer.specs.RoundTrip.{ReadAs, Short, WrittenAgain}
 use Rattle.report_writer.proofs.Basics.{basic-again}
 use Rattle.report_writer.proofs.Blocks.{block-within, block-again}
-use Rattle.report_data.proofs.Counts.{within-complete}
+use Rattle.writable.proofs.Counts.{within-complete}
 use Rattle.report_writer.proofs.Reading.{read-sound, read-framed}
 use Rattle.report_writer.proofs.Shapes.{View, plain, full, Shape, passes-shape}
 

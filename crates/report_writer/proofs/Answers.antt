@@ -14,11 +14,11 @@ use Rattle.writer.proofs.Writers.{Wrote, wrote-all, none-good}
 use Rattle.engineering.specs.declared.Engineering.{Engineering}
 use Rattle.report.specs.declared.Report.{Report}
 use Rattle.report_data.specs.Data.{reportFrame}
-use Rattle.report_data.specs.Writable.{writableIf, writable, unrepresentable}
+use Rattle.writable.specs.Writable.{writableIf, writable, unrepresentable}
 use Rattle.report_writer.specs.RoundTrip.{Readable, ReadBack, WrittenAgain}
 use Rattle.report_writer.proofs.Again.{read-writable, frame-again}
 use Rattle.report_writer.proofs.Back.{frame-back}
-use Rattle.report_data.proofs.Counts.{within-sound}
+use Rattle.writable.proofs.Counts.{within-sound}
 use Rattle.report_writer.proofs.FrameBytes.{frame-bytes}
 use Rattle.report_data.proofs.Typed.{TypedReport}
 use Rattle.report_writer.proofs.Writing.{Answered}

@@ -4,16 +4,17 @@ use mathlib.Core.List.{[], _++_}
 use mathlib.Core.Bool.{Bool, true, false}
 use native.Mathlib.Omega.{arith}
 use Rattle.refusal.specs.Check.{Passes}
-use Rattle.report.specs.Report.{basicOf, reportBy, reportOf}
-use Rattle.report.specs.Check.{reportChecks}
+use Rattle.basic.specs.Basic.{basicOf}
+use Rattle.report.specs.Report.{reportBy, reportOf}
+use Rattle.layout.specs.Check.{reportChecks}
 use Rattle.engineering.specs.declared.Engineering.{Engineering}
 use Rattle.report.specs.declared.Report.{Report}
 use Rattle.report_data.specs.Data.{typeOf, basicBytes, blockIf, blockOf, reportData, frontOf, reportFrame}
-use Rattle.report_data.specs.Writable.{writableIf, writable}
+use Rattle.writable.specs.Writable.{writableIf, writable}
 use Rattle.report_writer.specs.RoundTrip.{ReadAs}
 use Rattle.report_writer.proofs.Basics.{basic-back}
 use Rattle.report_writer.proofs.Blocks.{none-back, block-fits, block-back}
-use Rattle.report_data.proofs.Counts.{within-sound}
+use Rattle.writable.proofs.Counts.{within-sound}
 use Rattle.report_writer.proofs.Reading.{read-complete}
 use Rattle.report_writer.proofs.Shapes.{shaped, shaped-body, shaped-passes}
 use Rattle.report_data.proofs.Puts.{data-short}

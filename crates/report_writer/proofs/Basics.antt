@@ -6,11 +6,12 @@ use native.Mathlib.Numerals.{add-one}
 use native.Mathlib.Omega.{arith}
 use lib.ListN.{length, getD, take, drop, length-take, length-drop, take-append-drop}
 use lib.Seq.{drop-cons, drop-drop}
-use Rattle.wire.specs.Number.{little, leBytes}
-use Rattle.wire.specs.Bytes.{Bytes}
+use Rattle.number.specs.Number.{little, leBytes}
+use Rattle.number.specs.Bytes.{Bytes}
 use Rattle.put.proofs.Bytes.{bytes-take, bytes-drop, leBytes-little}
 use Rattle.target_state.specs.State.{stateOf, byteOf}
-use Rattle.report.specs.Report.{basicOf, reportWith}
+use Rattle.basic.specs.Basic.{basicOf}
+use Rattle.report.specs.Report.{reportWith}
 use Rattle.engineering.specs.declared.Engineering.{Engineering}
 use Rattle.report.specs.declared.Report.{Report}
 use Rattle.target_state.proofs.States.{state-byte}

@@ -8,10 +8,10 @@ use lib.Dec.{eqb}
 use lib.ListN.{length, take, drop, replicate, length-drop, take-append-drop}
 use lib.Seq.{length-take-le, take-all, take-at, drop-at}
 use borrow.Author.Tests.{eqb-true}
-use Rattle.wire.specs.Prefix.{padded}
-use Rattle.wire.proofs.Equality.{both-true}
-use Rattle.report_data.specs.Writable.{allZero}
-use Rattle.report_data.proofs.Counts.{Counted}
+use Rattle.byte_string.specs.Prefix.{padded}
+use Rattle.byte_string.proofs.Equality.{both-true}
+use Rattle.writable.specs.Writable.{allZero}
+use Rattle.writable.proofs.Counts.{Counted}
 use Rattle.report_data.proofs.Typed.{Held}
 
 zeros-sound : (s : List ℕ) → allZero s ≡ true → s ≡ replicate (length s) 0

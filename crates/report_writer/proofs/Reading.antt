@@ -6,11 +6,11 @@ use Prim.Native.Nat.{ℕ, _+_, _≤_, _<_}
 use native.Mathlib.Omega.{arith}
 use lib.ListN.{length, drop}
 use borrow.Author.Tests.{leb-true}
-use Rattle.wire.specs.Bytes.{Bytes}
+use Rattle.number.specs.Bytes.{Bytes}
 use Rattle.wire.specs.Family.{tail, framed}
 use Rattle.refusal.specs.Check.{Passes, firstFailed, outcomeOf}
 use Rattle.refusal.proofs.Checks.{passes-sound, passes-complete}
-use Rattle.wire.proofs.Equality.{same-sound}
+use Rattle.byte_string.proofs.Equality.{same-sound}
 use Rattle.wire.specs.declared.Kind.the-variants as Family
 use Rattle.wire.specs.declared.MaybeKind.{MaybeKind}
 use Rattle.wire.specs.declared.MaybeKind.the-variants as Found
@@ -18,13 +18,14 @@ use Rattle.refusal.specs.declared.MaybeCheck.{MaybeCheck}
 use Rattle.refusal.specs.declared.MaybeCheck.the-variants as Maybe
 use Rattle.refusal.specs.declared.Outcome.the-variants.{Ok}
 use Rattle.writer.proofs.Framing.{cut-framed, checked-cut}
-use Rattle.report.specs.Check.{reportChecks}
+use Rattle.layout.specs.Check.{reportChecks}
 use Rattle.report.specs.Report.{reportOf}
 use Rattle.report.specs.declared.Report.{Report}
-use Rattle.frame.specs.Frame.{family, announced, dataOf, endsAs, thenBody, frameIf, frameAs, checksFor, decoded}
+use Rattle.envelope.specs.Envelope.{family, announced, dataOf, endsAs}
+use Rattle.frame.specs.Frame.{thenBody, frameIf, frameAs, checksFor, decoded}
 use Rattle.frame.specs.Frame.{checkedFrame, parsedFrame}
 use Rattle.frame.specs.declared.Frame.{Frame}
-use Rattle.frame.proofs.Framed.{checked-framed}
+use Rattle.frame.proofs.Answers.{checked-framed}
 use Rattle.report_writer.specs.RoundTrip.{holding, ReadAs}
 
 pub record Read (f : List ℕ) (r : Report) : Type 0 where

@@ -9,11 +9,11 @@ use lib.ListN.{length, getD, drop, length-append, take-append-drop}
 use lib.Seq.{take-at, drop-at, drop-drop}
 use borrow.Author.Tests.{le-leb, leb-true, eqb-true}
 use Rattle.refusal.specs.Check.{Passes}
-use Rattle.wire.proofs.Equality.{same-sound, same-complete}
-use Rattle.engineering.specs.Block.{fits}
-use Rattle.report.specs.Report.{dataType, body, block}
-use Rattle.report.specs.Check.{reportChecks, knownType, nothingAfter, blockFits}
-use Rattle.engineering.proofs.Blocks.{Fits, fits-sound}
+use Rattle.byte_string.proofs.Equality.{same-sound, same-complete}
+use Rattle.gates.specs.Gates.{fits}
+use Rattle.layout.specs.Layout.{dataType, body, block}
+use Rattle.layout.specs.Check.{reportChecks, knownType, nothingAfter, blockFits}
+use Rattle.gates.proofs.Counts.{Fits, fits-sound}
 use Rattle.report_data.specs.Data.{trailer}
 
 module _ (t h : ℕ) (c : List ℕ) where

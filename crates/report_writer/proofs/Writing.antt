@@ -15,7 +15,7 @@ use Rattle.writer.specs.declared.WriteResult.the-variants.{Err}
 use Rattle.writer.proofs.Writers.{Wrote, Shown, wrote-refused, shown}
 use Rattle.report.specs.declared.Report.{Report}
 use Rattle.report_data.specs.Data.{reportData, reportFrame}
-use Rattle.report_data.specs.Writable.{writable, unrepresentable}
+use Rattle.writable.specs.Writable.{writable, unrepresentable}
 use Rattle.report_data.proofs.Typed.{TypedReport}
 use Rattle.report_data.proofs.Puts.{data-short}
 

@@ -13,18 +13,20 @@ use mathlib.Core.List.{List}
 use mathlib.Core.Bool.{true}
 use Prim.Native.Nat.{ℕ, _≤_}
 use lib.ListN.{take}
-use Rattle.wire.specs.Bytes.{Bytes}
+use Rattle.number.specs.Bytes.{Bytes}
 use Rattle.refusal.specs.declared.Outcome.the-variants as Outcome
 use Rattle.writer.specs.declared.WriteResult.{WriteResult}
 use Rattle.writer.specs.declared.WriteResult.the-variants as Write
 use Rattle.target_state.specs.State.{stateOf, byteOf}
-use Rattle.report.specs.Report.{body, basicOf}
+use Rattle.basic.specs.Basic.{basicOf}
+use Rattle.layout.specs.Layout.{body}
 use Rattle.report.specs.declared.Report.{Report}
-use Rattle.frame.specs.Frame.{dataOf, noAck, parsedFrame}
+use Rattle.envelope.specs.Envelope.{dataOf}
+use Rattle.frame.specs.Frame.{noAck, parsedFrame}
 use Rattle.frame.specs.declared.Frame.{Frame}
 use Rattle.frame.specs.declared.FrameKind.the-variants as Is
 use Rattle.report_data.specs.Data.{reportFrame}
-use Rattle.report_data.specs.Writable.{writable}
+use Rattle.writable.specs.Writable.{writable}
 
 abbrev pub holding : Report → Frame
 holding r = record { kind = Is.Report; report = r; ack = noAck }

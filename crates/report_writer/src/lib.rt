@@ -13,7 +13,7 @@ ghost use mathlib.Core.Bool.{true, false};
 ghost use lib.ListN.{length};
 ghost use Rattle.writer.specs.Written.{answerOf, bufferAfter, WriteCauses};
 ghost use Rattle.report_data.specs.Data.{reportFrame};
-ghost use Rattle.report_data.specs.Writable.{writable, unrepresentable};
+ghost use Rattle.writable.specs.Writable.{writable, unrepresentable};
 ghost use Rattle.report_writer.specs.RoundTrip.{Readable, ReadBack, WrittenAgain};
 
 // Writes the report's frame into the front of `out`, and answers the bytes written. Refuses with 6 a report that the

@@ -1,7 +1,3 @@
 -- Laws about the definitions, which the proofs of this crate and of the crates above cite.
 -- How long a command's value is.
 pub mod Makers
--- The reader's test of a frame.
-pub mod Framing
--- Frames that ask.
-pub mod Asking

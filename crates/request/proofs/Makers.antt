@@ -6,7 +6,7 @@ use Prim.Native.Nat.{ℕ, _≤_}
 use native.Mathlib.Omega.{arith}
 use lib.ListN.{length}
 use borrow.Author.Tests.{le-leb}
-use Rattle.wire.specs.Number.{leBytes}
+use Rattle.number.specs.Number.{leBytes}
 use Rattle.writer.specs.Written.{framable}
 use Rattle.request.specs.Request.{valueBytes, dataWith}
 use Rattle.request.specs.declared.Value.{Value}

@@ -3,7 +3,7 @@
 --   dataWith w v     a word, then a value: the data of a frame; and frameWith w v, the frame
 use mathlib.Core.List.{List, [], _++_}
 use Prim.Native.Nat.{ℕ}
-use Rattle.wire.specs.Number.{leBytes}
+use Rattle.number.specs.Number.{leBytes}
 use Rattle.wire.specs.Family.{framed}
 use Rattle.wire.specs.declared.Kind.the-variants as Family
 pub use Rattle.maker.specs.Request.{recordBytes}

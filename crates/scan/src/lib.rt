@@ -1,29 +1,12 @@
-// Where in a frame the stream parser is, and what it counts.
+// Where in a frame the stream parser is.
 //
-// A scan is a few numbers; the data bytes of the frame in progress stand in a buffer that the caller lends.
+// A scan is a few numbers; the data bytes of the frame in progress stand in a buffer that the caller lends. A scan that
+// has a number out of range is handled as if reset came first.
+use limit::in_range;
 use wire::Kind;
-use wire::MAX_DATA;
-use wire::MaybeKind;
-use wire::bump;
-
-mod places;
-
 ghost use mathlib.Core.Path.{_≡_};
-ghost use Rattle.stream.specs.Scan.{inRange};
-ghost use Rattle.stream.specs.Link.{linkMost};
-ghost use Rattle.scan.specs.Start.{abandoned, startOf, counted, takingOf};
-
-// Parser counters. Each stops at its largest number.
-pub struct Stats {
-    // Complete, decoded frames delivered.
-    pub frames: u32,
-    // Times a frame in progress was given up and the search for a header began anew.
-    pub resyncs: u32,
-    // Bytes discarded: those between frames, and those of frames that were given up.
-    pub dropped: u32,
-    // Whole frames whose data do not decode.
-    pub malformed: u32,
-}
+ghost use Rattle.limit.specs.Length.{linkMost};
+ghost use Rattle.scan.specs.Scan.{hunting, inOrder, settled};
 
 // Where in a frame the parser is.
 pub enum State {
@@ -46,115 +29,42 @@ pub struct Scan {
     pub pos: usize,
 }
 
-// Whether a byte ended a frame: its family and the length of its data, which stand at the front of the buffer.
-pub enum Ended {
-    Frame(Kind, usize),
-    Nothing,
-}
-
-// What a byte did, beside what it stored in the buffer.
-pub struct Stepped {
-    pub scan: Scan,
-    pub stats: Stats,
-    pub ended: Ended,
-}
-
-// What a slice did, beside what it stored in the buffer: the scan and the counters that it left, whether it ended a
-// frame, and how many of its bytes were taken.
-pub struct Scanned {
-    pub scan: Scan,
-    pub stats: Stats,
-    pub ended: Ended,
-    pub taken: usize,
-}
-
-// The smallest length that the parser takes: a bare command word.
-const MIN_DATA: usize = 2;
-
-// Whether the parser takes this length.
-pub fn in_range(len: usize) -> bool
-    ensures told { λ r. ⌜ r ≡ inRange linkMost len ⌝ }
-{
-    MIN_DATA <= len && len <= MAX_DATA
-}
-
-impl Stats {
-    // Gives up a frame in progress whose first `consumed` bytes were taken.
-    pub fn abandon(self, consumed: usize) -> Self
-        ensures counted { λ r. ⌜ r ≡ abandoned self consumed ⌝ }
+impl Scan {
+    // A scan that looks for a header.
+    pub fn hunting() -> Self
+        ensures made { λ r. ⌜ r ≡ hunting ⌝ }
     {
-        Stats {
-            frames: self.frames,
-            resyncs: bump(self.resyncs, 1),
-            dropped: bump(self.dropped, consumed),
-            malformed: self.malformed,
+        Scan {
+            state: State::Header,
+            kind: Kind::Report,
+            matched: 0,
+            len: 0,
+            pos: 0,
         }
     }
 
-    // Counts a whole frame, by whether it decodes.
-    pub fn count(self, decodes: bool) -> Self
-        ensures counted { λ r. ⌜ r ≡ counted decodes self ⌝ }
+    // Whether no field is out of range.
+    fn in_order(self) -> bool
+        ensures told { λ r. ⌜ r ≡ inOrder linkMost self ⌝ }
     {
-        if decodes {
-            Stats {
-                frames: bump(self.frames, 1),
-                resyncs: self.resyncs,
-                dropped: self.dropped,
-                malformed: self.malformed,
-            }
+        let state = self.state;
+        match state {
+            State::Header => self.matched <= 3,
+            State::Len => self.matched <= 1
+                && (self.len <= 255 && (self.matched == 1 || self.len == 0)),
+            State::Data => in_range(self.len) && self.pos < self.len,
+            State::Tail => self.matched <= 3 && (in_range(self.len) && self.pos == self.len),
+        }
+    }
+
+    // The scan, or, where a field is out of range, as if reset came first.
+    pub fn settled(self) -> Self
+        ensures settled { λ r. ⌜ r ≡ settled linkMost self ⌝ }
+    {
+        if self.in_order() {
+            self
         } else {
-            Stats {
-                frames: self.frames,
-                resyncs: self.resyncs,
-                dropped: self.dropped,
-                malformed: bump(self.malformed, 1),
-            }
-        }
-    }
-
-    // Treats `byte` as a possible first header byte.
-    pub fn start(self, byte: u8) -> Stepped
-        ensures started { λ r. ⌜ r ≡ startOf self byte ⌝ }
-    {
-        match Kind::starting_with(byte) {
-            MaybeKind::Some(kind) => Stepped {
-                scan: Scan {
-                    state: State::Header,
-                    kind,
-                    matched: 1,
-                    len: 0,
-                    pos: 0,
-                },
-                stats: self,
-                ended: Ended::Nothing,
-            },
-            MaybeKind::None => Stepped {
-                scan: Scan::hunting(),
-                stats: Stats {
-                    frames: self.frames,
-                    resyncs: self.resyncs,
-                    dropped: bump(self.dropped, 1),
-                    malformed: self.malformed,
-                },
-                ended: Ended::Nothing,
-            },
-        }
-    }
-}
-
-impl Stepped {
-    // The byte was the last of `taken`.
-    pub fn taking(self, taken: usize) -> Scanned
-        ensures scanned { λ r. ⌜ r ≡ takingOf self taken ⌝ }
-    {
-        let scan = self.scan;
-        let stats = self.stats;
-        let ended = self.ended;
-        Scanned {
-            scan,
-            stats,
-            ended,
-            taken,
+            Scan::hunting()
         }
     }
 }

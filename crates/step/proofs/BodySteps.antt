@@ -9,21 +9,22 @@ use lib.Dec.{eqb, ltb}
 use lib.ListN.{length, take, getD, set, length-append, length-take}
 use lib.Seq.{take-all, take-suc-set, length-take-le}
 use borrow.Author.Tests.{le-leb, ltb-false, eq-eqb, eqb-true, eqb-false}
-use Rattle.wire.specs.Number.{little, leBytes}
+use Rattle.number.specs.Number.{little, leBytes}
 use Rattle.wire.specs.Family.{header, tail}
 use Rattle.wire.specs.declared.Kind.{Kind}
 use Rattle.framing.specs.Scanner as Scanner
-use Rattle.stream.specs.Scan.{inRange, opens, wholes}
+use Rattle.limit.specs.Length.{inRange}
+use Rattle.stream.specs.Scan.{opens, wholes}
 use Rattle.stream.specs.Link.{link}
 use Rattle.wire.proofs.Families.{header-length, tail-length}
 use Rattle.stream.proofs.Steps.{data-opens, data-not-whole, tail-opens, tail-not-whole, tail-whole}
 use Rattle.scan.specs.Scan.{at, hunting, inOrder, pendingOf}
-use Rattle.scan.specs.Start.{went, abandoned, startOf}
+use Rattle.stats.specs.Start.{went, abandoned, startOf}
 use Rattle.step.specs.Step.{orElse}
 use Rattle.scan.specs.declared.State.the-variants.{Data, Tail}
 use Rattle.scan.specs.declared.Scan.{Scan}
-use Rattle.scan.specs.declared.Stats.{Stats}
-use Rattle.scan.specs.declared.Ended.the-variants.{Frame}
+use Rattle.stats.specs.declared.Stats.{Stats}
+use Rattle.stats.specs.declared.Ended.the-variants.{Frame}
 use Rattle.step.proofs.Follow.{Capped, Follows, follows-on, follows-end, follows-break}
 use Rattle.scan.proofs.Ranges.{and-intro, range-high}
 use Rattle.step.proofs.HeadSteps.{word-grows}

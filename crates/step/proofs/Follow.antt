@@ -8,9 +8,9 @@ use Prim.Native.Nat.{ℕ, _≤_, _<_}
 use native.Mathlib.Omega.{arith}
 use lib.Dec.{T}
 use lib.ListN.{length, take, getD}
-use Rattle.wire.specs.Number.{leBytes}
-use Rattle.wire.specs.Counter.{counterMost, bumped}
-use Rattle.wire.proofs.Counters.{bumped-append, bumped-nil, bumped-most}
+use Rattle.number.specs.Number.{leBytes}
+use Rattle.number.specs.Counter.{counterMost, bumped}
+use Rattle.number.proofs.Counters.{bumped-append, bumped-nil, bumped-most}
 use Rattle.wire.specs.Family.{header, tail, startingWith}
 use Rattle.wire.specs.declared.Kind.{Kind}
 use Rattle.wire.specs.declared.Kind.the-variants.{Report, Command}
@@ -23,13 +23,13 @@ use Rattle.stream.specs.Scan.{opens, wholes}
 use Rattle.stream.specs.Link.{link}
 use Rattle.stream.proofs.Steps.{starting-sound, start-opens, start-strays, start-not-whole}
 use Rattle.scan.specs.Scan.{at, hunting, inOrder, pendingOf}
-use Rattle.scan.specs.Start.{went, abandoned, startAs, startOf}
+use Rattle.stats.specs.Start.{went, abandoned, startAs, startOf}
 use Rattle.scan.specs.declared.State.the-variants.{Header}
 use Rattle.scan.specs.declared.Scan.{Scan}
-use Rattle.scan.specs.declared.Stats.{Stats}
-use Rattle.scan.specs.declared.Ended.{Ended}
-use Rattle.scan.specs.declared.Ended.the-variants.{Frame, Nothing}
-use Rattle.scan.specs.declared.Stepped.{Stepped}
+use Rattle.stats.specs.declared.Stats.{Stats}
+use Rattle.stats.specs.declared.Ended.{Ended}
+use Rattle.stats.specs.declared.Ended.the-variants.{Frame, Nothing}
+use Rattle.stats.specs.declared.Stepped.{Stepped}
 
 -- No counter is past its most, which the counters' type says.
 pub record Capped (st : Stats) : Type 0 where

@@ -9,20 +9,20 @@ use lib.Dec.{eqb}
 use lib.ListN.{length, take, getD, length-append}
 use lib.Seq.{take-suc, take-all, length-take-le}
 use borrow.Author.Tests.{le-leb, lt-ltb, eq-eqb, ne-eqb, eqb-true, eqb-false}
-use Rattle.wire.specs.Number.{little, leBytes}
+use Rattle.number.specs.Number.{little, leBytes}
 use Rattle.wire.specs.Family.{header}
 use Rattle.wire.specs.declared.Kind.{Kind}
 use Rattle.framing.specs.Scanner as Scanner
-use Rattle.stream.specs.Scan.{inRange}
+use Rattle.limit.specs.Length.{inRange}
 use Rattle.stream.specs.Link.{link}
 use Rattle.wire.proofs.Families.{header-length}
 use Rattle.stream.proofs.Steps.{header-opens, header-not-whole, length-opens, length-not-whole}
 use Rattle.stream.proofs.Steps.{data-opens, data-not-whole}
 use Rattle.scan.specs.Scan.{at, inOrder, pendingOf}
-use Rattle.scan.specs.Start.{went, abandoned, startOf}
+use Rattle.stats.specs.Start.{went, abandoned, startOf}
 use Rattle.step.specs.Step.{orElse, stepHeader, stepLen}
 use Rattle.scan.specs.declared.State.the-variants.{Header, Len, Data}
-use Rattle.scan.specs.declared.Stats.{Stats}
+use Rattle.stats.specs.declared.Stats.{Stats}
 use Rattle.step.proofs.Follow.{Capped, Follows, follows-on, follows-start, follows-break}
 use Rattle.scan.proofs.Ranges.{and-intro, range-low}
 

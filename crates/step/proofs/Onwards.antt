@@ -10,16 +10,16 @@ use Rattle.wire.specs.Family.{header, tail, startingWith}
 use Rattle.wire.specs.declared.Kind.{Kind}
 use Rattle.wire.specs.declared.MaybeKind.{MaybeKind}
 use Rattle.wire.specs.declared.MaybeKind.the-variants.{Some, None}
-use Rattle.stream.specs.Scan.{inRange}
+use Rattle.limit.specs.Length.{inRange}
 use Rattle.scan.specs.Scan.{inOrder}
-use Rattle.scan.specs.Start.{abandoned, startAs, startOf}
+use Rattle.stats.specs.Start.{abandoned, startAs, startOf}
 use Rattle.step.specs.Step.{stepHeader, stepLen, stepData, stepTail}
 use Rattle.step.specs.Step.{stepIn, stepOf}
 use Rattle.scan.specs.declared.State.{State}
 use Rattle.scan.specs.declared.State.the-variants.{Header, Len, Data, Tail}
 use Rattle.scan.specs.declared.Scan.{Scan}
-use Rattle.scan.specs.declared.Stats.{Stats}
-use Rattle.scan.specs.declared.Stepped.{Stepped}
+use Rattle.stats.specs.declared.Stats.{Stats}
+use Rattle.stats.specs.declared.Stepped.{Stepped}
 use Rattle.scan.proofs.Ranges.{and-intro, range-low}
 use Rattle.step.proofs.Turns.{data-step, either}
 use Rattle.scan.proofs.Orders.{header-matched, tail-matched, tail-range, data-range, data-at-order}

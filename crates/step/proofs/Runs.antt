@@ -11,14 +11,14 @@ use Rattle.scan.specs.Scan.{inOrder}
 use Rattle.step.specs.Step.{stepOf, stored}
 use Rattle.step.specs.Slice.{Run, runAt, oneMore, thenRun, runOf}
 use Rattle.step.specs.Phase.{behind, runFrom, onFrom, Onward}
-use Rattle.scan.specs.Start.{takingOf}
+use Rattle.stats.specs.Start.{takingOf}
 use Rattle.wire.specs.declared.Kind.{Kind}
 use Rattle.scan.specs.declared.Scan.{Scan}
-use Rattle.scan.specs.declared.Stats.{Stats}
-use Rattle.scan.specs.declared.Ended.{Ended}
-use Rattle.scan.specs.declared.Ended.the-variants.{Frame, Nothing}
-use Rattle.scan.specs.declared.Stepped.{Stepped}
-use Rattle.scan.specs.declared.Scanned.{Scanned}
+use Rattle.stats.specs.declared.Stats.{Stats}
+use Rattle.stats.specs.declared.Ended.{Ended}
+use Rattle.stats.specs.declared.Ended.the-variants.{Frame, Nothing}
+use Rattle.stats.specs.declared.Stepped.{Stepped}
+use Rattle.stats.specs.declared.Scanned.{Scanned}
 use Rattle.step.proofs.Onwards.{step-order}
 
 -- The run r, after n bytes.

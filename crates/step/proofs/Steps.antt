@@ -10,7 +10,7 @@ use borrow.Author.Tests.{ltb-true, leb-true}
 use Rattle.wire.specs.Family.{tail}
 use Rattle.wire.specs.declared.Kind.{Kind}
 use Rattle.framing.specs.Scanner as Scanner
-use Rattle.stream.specs.Scan.{inRange}
+use Rattle.limit.specs.Length.{inRange}
 use Rattle.stream.specs.Link.{link}
 use Rattle.scan.specs.Scan.{orderIn, inOrder, pendingIn, pendingOf}
 use Rattle.step.specs.Step.{stepIn, stepOf}
@@ -18,7 +18,7 @@ use Rattle.step.specs.Step.{storedIn, stored}
 use Rattle.scan.specs.declared.State.{State}
 use Rattle.scan.specs.declared.State.the-variants.{Header, Len, Data, Tail}
 use Rattle.scan.specs.declared.Scan.{Scan}
-use Rattle.scan.specs.declared.Stats.{Stats}
+use Rattle.stats.specs.declared.Stats.{Stats}
 use Rattle.step.proofs.Follow.{Capped, Follows}
 use Rattle.scan.proofs.Ranges.{and-left, and-right, and-middle, range-high}
 use Rattle.step.proofs.HeadSteps.{header-follows, length-follows}

@@ -9,9 +9,9 @@ use lib.ListN.{getD}
 use borrow.Author.Tests.{eq-eqb, ne-eqb}
 use Rattle.wire.specs.Family.{header, tail}
 use Rattle.wire.specs.declared.Kind.{Kind}
-use Rattle.stream.specs.Scan.{inRange}
+use Rattle.limit.specs.Length.{inRange}
 use Rattle.scan.specs.Scan.{at, hunting}
-use Rattle.scan.specs.Start.{went, abandoned, startOf}
+use Rattle.stats.specs.Start.{went, abandoned, startOf}
 use Rattle.step.specs.Step.{orElse}
 use Rattle.step.specs.Step.{stepHeader, stepLen, stepData, stepTail, stepIn, stepOf}
 use Rattle.step.specs.Step.{storedIn, stored}
@@ -19,11 +19,11 @@ use Rattle.scan.specs.Scan.{pick, dataAt}
 use Rattle.scan.specs.declared.State.{State}
 use Rattle.scan.specs.declared.State.the-variants.{Header, Len, Data, Tail}
 use Rattle.scan.specs.declared.Scan.{Scan}
-use Rattle.scan.specs.declared.Stats.{Stats}
-use Rattle.scan.specs.declared.Ended.the-variants.{Frame}
-use Rattle.scan.specs.declared.Stepped.{Stepped}
+use Rattle.stats.specs.declared.Stats.{Stats}
+use Rattle.stats.specs.declared.Ended.the-variants.{Frame}
+use Rattle.stats.specs.declared.Stepped.{Stepped}
 use Rattle.scan.proofs.Ranges.{range-low}
-use Rattle.scan.proofs.Starts.{data-some}
+use Rattle.place.proofs.Behind.{data-some}
 
 module _ (st : Stats) (b : ℕ) where
   module _ (k : Kind) (m : ℕ) where

@@ -8,12 +8,13 @@ use lib.Dec.{T, eqb, leb, ltb}
 use lib.ListN.{length, take, drop, length-append, length-take, take-append-drop}
 use lib.Seq.{length-take-le, drop-at}
 use borrow.Author.Tests.{leb-true, ltb-true}
-use Rattle.wire.specs.Number.{little, leBytes}
+use Rattle.number.specs.Number.{little, leBytes}
 use Rattle.wire.specs.Family.{header, tail}
 use Rattle.wire.proofs.Families.{header-length, tail-length}
 use Rattle.wire.specs.declared.Kind.{Kind}
 use Rattle.stream.specs.Open.{InRange, in-header, in-length, in-data, in-tail, Whole}
-use Rattle.stream.specs.Scan.{inRange, opens, wholes}
+use Rattle.limit.specs.Length.{inRange}
+use Rattle.stream.specs.Scan.{opens, wholes}
 use Rattle.stream.proofs.Opens.{opens-complete}
 use Rattle.stream.proofs.Wholes.{wholes-sound}
 use Rattle.scan.specs.Scan.{orderIn, inOrder, pendingIn, pendingOf, unfinishedIn, unfinishedAt}

@@ -14,10 +14,10 @@ use Rattle.scan.specs.Scan.{inOrder}
 use Rattle.step.specs.Slice.{Run, runAt, runOf}
 use Rattle.scan.specs.declared.State.{State}
 use Rattle.scan.specs.declared.Scan.{Scan}
-use Rattle.scan.specs.declared.Stats.{Stats}
-use Rattle.scan.specs.declared.Ended.{Ended}
-use Rattle.scan.specs.declared.Ended.the-variants.{Frame, Nothing}
-use Rattle.scan.specs.declared.Scanned.{Scanned}
+use Rattle.stats.specs.declared.Stats.{Stats}
+use Rattle.stats.specs.declared.Ended.{Ended}
+use Rattle.stats.specs.declared.Ended.the-variants.{Frame, Nothing}
+use Rattle.stats.specs.declared.Scanned.{Scanned}
 
 abbrev pub behind : ℕ → Run → Run
 behind i r = runAt (r .scanned .scan) (r .scanned .stats) (r .scanned .ended) (i + r .scanned .taken) (r .buf)

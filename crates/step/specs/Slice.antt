@@ -5,11 +5,11 @@ use mathlib.Core.List.{List, [], _∷_}
 use Prim.Native.Nat.{ℕ, suc}
 use Rattle.step.specs.Step.{stepOf, stored}
 use Rattle.scan.specs.declared.Scan.{Scan}
-use Rattle.scan.specs.declared.Stats.{Stats}
-use Rattle.scan.specs.declared.Ended.{Ended}
-use Rattle.scan.specs.declared.Ended.the-variants.{Frame, Nothing}
-use Rattle.scan.specs.declared.Stepped.{Stepped}
-use Rattle.scan.specs.declared.Scanned.{Scanned}
+use Rattle.stats.specs.declared.Stats.{Stats}
+use Rattle.stats.specs.declared.Ended.{Ended}
+use Rattle.stats.specs.declared.Ended.the-variants.{Frame, Nothing}
+use Rattle.stats.specs.declared.Stepped.{Stepped}
+use Rattle.stats.specs.declared.Scanned.{Scanned}
 
 pub record Run : Type 0 where
   pub scanned : Scanned

@@ -8,15 +8,15 @@ use lib.Dec.{ltb, eqb}
 use lib.ListN.{getD, set}
 use Rattle.wire.specs.Family.{header, tail}
 use Rattle.wire.specs.declared.Kind.{Kind}
-use Rattle.stream.specs.Scan.{inRange}
+use Rattle.limit.specs.Length.{inRange}
 use Rattle.scan.specs.Scan.{at, hunting}
-use Rattle.scan.specs.Start.{went, abandoned, startOf}
+use Rattle.stats.specs.Start.{went, abandoned, startOf}
 use Rattle.scan.specs.declared.State.{State}
 use Rattle.scan.specs.declared.State.the-variants.{Header, Len, Data, Tail}
 use Rattle.scan.specs.declared.Scan.{Scan}
-use Rattle.scan.specs.declared.Stats.{Stats}
-use Rattle.scan.specs.declared.Ended.the-variants.{Frame}
-use Rattle.scan.specs.declared.Stepped.{Stepped}
+use Rattle.stats.specs.declared.Stats.{Stats}
+use Rattle.stats.specs.declared.Ended.the-variants.{Frame}
+use Rattle.stats.specs.declared.Stepped.{Stepped}
 
 abbrev pub orElse : Bool → Stepped → Stepped → Stepped
 orElse true r other = r

@@ -7,12 +7,12 @@ use native.Mathlib.Omega.{arith}
 use lib.Dec.{T}
 use lib.ListN.{length}
 use borrow.Author.Tests.{ne-eqb}
-use Rattle.wire.specs.Number.{little, leBytes}
+use Rattle.number.specs.Number.{little, leBytes}
 use Rattle.wire.specs.Family.{header, tail, startingWith, framed}
 use Rattle.wire.specs.declared.Kind.{Kind}
 use Rattle.wire.specs.declared.Kind.the-variants.{Report, Command}
 use Rattle.wire.specs.declared.MaybeKind.the-variants.{Some, None}
-use Rattle.framing.specs.Bytes.{Bytes}
+use Rattle.engine.specs.Bytes.{Bytes}
 use Rattle.stream.specs.Open.{InRange, Whole}
 use Rattle.stream.specs.Scan.{opens}
 use Rattle.stream.proofs.Steps.{start-opens, start-strays}

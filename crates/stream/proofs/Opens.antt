@@ -9,14 +9,15 @@ use native.Mathlib.Omega.{arith}
 use lib.Dec.{T}
 use lib.ListN.{length, take, drop, take-append-drop, drop-of-length-le}
 use lib.Seq.{length-take-le, drop-at}
-use Rattle.wire.specs.Number.{little}
+use Rattle.number.specs.Number.{little}
 use Rattle.wire.specs.Family.{header, tail, startingWith}
 use Rattle.wire.specs.declared.Kind.{Kind}
 use Rattle.wire.specs.declared.Kind.the-variants.{Report}
 use Rattle.wire.specs.declared.MaybeKind.{MaybeKind}
 use Rattle.wire.specs.declared.MaybeKind.the-variants.{Some, None}
 use Rattle.stream.specs.Open.{InRange, Prefix, Open, in-header, in-length, in-data, in-tail}
-use Rattle.stream.specs.Scan.{behind, nothing, inRange, readsLength, reads, readsAs, opens}
+use Rattle.limit.specs.Length.{inRange}
+use Rattle.stream.specs.Scan.{behind, nothing, readsLength, reads, readsAs, opens}
 use Rattle.stream.specs.Laws.{both-right, opens-prefix}
 use Rattle.stream.proofs.Headers.{opens-header}
 use Rattle.stream.proofs.Words.{both-left, both, behind-sound, behind-within, nothing-sound}

@@ -8,14 +8,15 @@ use lib.Dec.{eqb}
 use borrow.Author.Tests.{eq-eqb, eqb-true}
 use lib.ListN.{length, getD, take, drop, length-drop, drop-of-length-le}
 use lib.Seq.{drop-at}
-use Rattle.wire.specs.Number.{little}
+use Rattle.number.specs.Number.{little}
 use Rattle.wire.specs.Family.{header, tail, startingWith, orElse}
 use Rattle.wire.proofs.Families.{tail-length}
 use Rattle.wire.specs.declared.Kind.{Kind}
 use Rattle.wire.specs.declared.Kind.the-variants.{Report, Command}
 use Rattle.wire.specs.declared.MaybeKind.{MaybeKind}
 use Rattle.wire.specs.declared.MaybeKind.the-variants.{Some, None}
-use Rattle.stream.specs.Scan.{behind, nothing, inRange, readsLength, reads, readsAs, opens, wholes}
+use Rattle.limit.specs.Length.{inRange}
+use Rattle.stream.specs.Scan.{behind, nothing, readsLength, reads, readsAs, opens, wholes}
 use Rattle.stream.proofs.Headers.{opens-header, wholes-header}
 
 and-true : (a : Bool) → a && true ≡ a

@@ -7,7 +7,7 @@ use Prim.Native.Nat.{ℕ, _<_}
 use native.Mathlib.Omega.{arith}
 use lib.Dec.{T, eqb, eqb→eq, eqb-refl}
 use lib.ListN.{length, getD, take, length-append}
-use Rattle.wire.specs.Number.{little}
+use Rattle.number.specs.Number.{little}
 use Rattle.wire.specs.Family.{header, tail}
 use Rattle.wire.proofs.Families.{header-length}
 use Rattle.wire.specs.declared.Kind.{Kind}

@@ -6,14 +6,15 @@ use Prim.Native.Nat.{ℕ, _≤_}
 use lib.Dec.{T}
 use lib.ListN.{length, take, drop, take-append-drop}
 use lib.Seq.{length-take-le, drop-at}
-use Rattle.wire.specs.Number.{little}
+use Rattle.number.specs.Number.{little}
 use Rattle.wire.specs.Family.{header, tail, startingWith}
 use Rattle.wire.specs.declared.Kind.{Kind}
 use Rattle.wire.specs.declared.Kind.the-variants.{Report, Command}
 use Rattle.wire.specs.declared.MaybeKind.{MaybeKind}
 use Rattle.wire.specs.declared.MaybeKind.the-variants.{Some, None}
 use Rattle.stream.specs.Open.{InRange, Whole}
-use Rattle.stream.specs.Scan.{behind, nothing, inRange, readsLength, reads, readsAs, wholes}
+use Rattle.limit.specs.Length.{inRange}
+use Rattle.stream.specs.Scan.{behind, nothing, readsLength, reads, readsAs, wholes}
 use Rattle.stream.specs.Laws.{both-right, tail-room}
 use Rattle.stream.proofs.Headers.{wholes-header}
 use Rattle.stream.proofs.Words.{both-left, both, whole-sound, nothing-sound}

@@ -7,7 +7,8 @@ use Prim.Native.Nat.{ℕ}
 use native.Mathlib.Omega.{arith}
 use lib.Dec.{T, eqb, leb, eqb→eq, eqb-refl, leb→le, le→leb}
 use Rattle.stream.specs.Open.{InRange, Prefix}
-use Rattle.stream.specs.Scan.{behind, nothing, inRange}
+use Rattle.limit.specs.Length.{inRange}
+use Rattle.stream.specs.Scan.{behind, nothing}
 use Rattle.stream.specs.Laws.{both-right}
 
 pub both-left : (a b : Bool) → T (a && b) → T a

@@ -6,13 +6,13 @@ use Prim.Native.Nat.{ℕ, _<_}
 use lib.Dec.{T}
 use lib.ListN.{length, getD, take}
 use Rattle.refusal.specs.Check.{firstFailed}
-use Rattle.wire.specs.Number.{little}
+use Rattle.number.specs.Number.{little}
 use Rattle.wire.specs.Family.{header, tail, framed}
 use Rattle.wire.specs.declared.Kind.{Kind}
 use Rattle.frame.specs.Frame.{bodyChecks, decoded}
-use Rattle.framing.specs.Bytes.{Bytes}
 use Rattle.framing.specs.Framing.{Piece, broken}
 use Rattle.framing.specs.Division.{Division}
+use Rattle.engine.specs.Bytes.{Bytes}
 use Rattle.stream.specs.Open.{InRange, Open, Whole}
 use Rattle.stream.specs.Scan.{opens, wholes}
 use Rattle.stream.specs.Link.{link}

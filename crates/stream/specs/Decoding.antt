@@ -14,11 +14,12 @@ use Rattle.wire.specs.declared.MaybeKind.{MaybeKind}
 use Rattle.wire.specs.declared.MaybeKind.the-variants as Found
 use Rattle.refusal.specs.declared.MaybeCheck.{MaybeCheck}
 use Rattle.refusal.specs.declared.MaybeCheck.the-variants as Maybe
-use Rattle.frame.specs.Frame.{family, dataOf, checksFor, frameOf, frameIf, frameAs, checkedFrame}
+use Rattle.envelope.specs.Envelope.{family, dataOf}
+use Rattle.frame.specs.Frame.{checksFor, frameOf, frameIf, frameAs, checkedFrame}
 use Rattle.frame.specs.declared.Frame.{Frame}
 use Rattle.framing.specs.Framing.{unfinished}
 use Rattle.framing.specs.Tally.{Counting}
-use Rattle.framing.specs.Engine.{Decoding}
+use Rattle.engine.specs.Engine.{Decoding}
 use Rattle.stream.specs.Deliver.{Answer, holds, decodes, countedIn, payloadOf, delivered, nothing, isFrame}
 use Rattle.stream.specs.Deliver.{Counter, frames, resyncs, dropped, malformed, adds}
 

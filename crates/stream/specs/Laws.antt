@@ -6,13 +6,14 @@ use Prim.Native.Nat.{ℕ, zero, suc, _-_, _≤_}
 use native.Mathlib.Omega.{arith}
 use lib.Dec.{T, eqb}
 use lib.ListN.{length, drop, length-drop}
-use Rattle.wire.specs.Number.{little}
+use Rattle.number.specs.Number.{little}
 use Rattle.wire.specs.Family.{header, tail, startingWith}
 use Rattle.wire.proofs.Families.{tail-length}
 use Rattle.wire.specs.declared.Kind.{Kind}
 use Rattle.wire.specs.declared.MaybeKind.{MaybeKind}
 use Rattle.wire.specs.declared.MaybeKind.the-variants.{Some, None}
-use Rattle.stream.specs.Scan.{behind, nothing, inRange, readsLength, reads, readsAs, opens, wholes}
+use Rattle.limit.specs.Length.{inRange}
+use Rattle.stream.specs.Scan.{behind, nothing, readsLength, reads, readsAs, opens, wholes}
 
 pub both-mono : (a b c : Bool) → (T b → T c) → T (a && b) → T (a && c)
 both-mono true b c f h = f h

@@ -1,14 +1,10 @@
 -- The LD2410's framing, over the largest length that the stream takes.
---   linkMost    the largest length of document 01
 --   link most   the tests of the framing, with its laws
 use Prim.Native.Nat.{ℕ}
 use Rattle.framing.specs.Tests.{Tests, framingOf}
 use Rattle.framing.specs.Framing.{Framing}
 use Rattle.stream.specs.Scan.{opens, wholes}
 use Rattle.stream.specs.Laws.{opens-empty, wholes-empty, opens-prefix, wholes-open, wholes-ends}
-
-abbrev pub linkMost : ℕ
-linkMost = 54
 
 abbrev pub linkTests : ℕ → Tests
 linkTests most = record {

@@ -7,7 +7,7 @@ use mathlib.Core.Path.{_≡_}
 use mathlib.Core.List.{List, [], _∷_, _++_}
 use Prim.Native.Nat.{ℕ, _≤_}
 use lib.ListN.{length}
-use Rattle.wire.specs.Number.{little}
+use Rattle.number.specs.Number.{little}
 use Rattle.wire.specs.Family.{header, tail}
 use Rattle.wire.specs.declared.Kind.{Kind}
 

@@ -1,19 +1,19 @@
 -- The same by tests that compute. Read from the left, an open string is a whole frame that may be cut short anywhere:
 -- `cut` says whether it may.
 --   behind cut w next s   s begins with the word w, and what is behind it passes `next`; where s ends within w, `cut`
---   inRange most n        the length n is 2 to `most`
 --   reads cut most k s    s is a frame of the family k, or, if `cut`, the beginning of one
 --   opens, wholes         s is open; s is a whole frame: by the family that its first byte announces
 use mathlib.Core.List.{List, [], _∷_}
 use mathlib.Core.Bool.{Bool, true, false, _&&_}
 use Prim.Native.Nat.{ℕ}
-use lib.Dec.{leb, eqb}
+use lib.Dec.{eqb}
 use lib.ListN.{drop}
-use Rattle.wire.specs.Number.{little}
+use Rattle.number.specs.Number.{little}
 use Rattle.wire.specs.Family.{header, tail, startingWith}
 use Rattle.wire.specs.declared.Kind.{Kind}
 use Rattle.wire.specs.declared.MaybeKind.{MaybeKind}
 use Rattle.wire.specs.declared.MaybeKind.the-variants.{Some, None}
+use Rattle.limit.specs.Length.{inRange}
 
 abbrev pub behind : Bool → List ℕ → (List ℕ → Bool) → List ℕ → Bool
 behind cut [] next s = next s
@@ -23,9 +23,6 @@ behind cut (h ∷ w) next (b ∷ s) = eqb b h && behind cut w next s
 abbrev pub nothing : List ℕ → Bool
 nothing [] = true
 nothing (b ∷ s) = false
-
-abbrev pub inRange : ℕ → ℕ → Bool
-inRange most n = leb 2 n && leb n most
 
 -- A length, that many data bytes, and the tail: of what is behind a header.
 abbrev pub readsLength : Bool → ℕ → Kind → List ℕ → Bool

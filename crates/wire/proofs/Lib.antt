@@ -1,11 +1,3 @@
 -- Laws about the definitions, which the proofs of this crate and of the crates above cite.
--- Two byte strings are the same, or differ.
-pub mod Equality
 -- The families' headers.
 pub mod Families
--- Numbers on the wire: where they are, and where they are missing.
-pub mod Numbers
--- Counters that stop at a most.
-pub mod Counters
--- Copies of a prefix.
-pub mod Prefixes

@@ -1,6 +1,2 @@
 pub mod Family
-pub mod Number
-pub mod Counter
-pub mod Prefix
-pub mod Equal
-pub mod Bytes
+pub mod Gate

@@ -1,11 +1,11 @@
 -- Puts one behind the other: each extends what is written at the buffer's front.
 use mathlib.Core.Path.{_≡_, refl, _∙_}
-use mathlib.Core.List.{List, [], _++_, append-nil}
+use mathlib.Core.List.{List, [], _++_}
 use Prim.Native.Nat.{ℕ, _+_, _≤_}
 use native.Mathlib.Omega.{arith}
-use lib.ListN.{length, take, drop, length-append, length-drop, drop-of-length-le}
+use lib.ListN.{length, take, drop, length-append, length-drop}
 use lib.Seq.{take-length, take-append-seam, drop-append-add, drop-drop}
-use Rattle.wire.specs.Prefix.{over}
+use Rattle.byte_string.specs.Prefix.{over}
 use Rattle.put.specs.Put.{putIn}
 use Rattle.writer.specs.Written.{written}
 use Rattle.put.proofs.Puts.{put-fits}
@@ -14,11 +14,6 @@ use Rattle.put.proofs.Puts.{put-fits}
 pub written-nil : (out : List ℕ) → written out [] ≡ out
 unfolding written
 written-nil out = refl
-
--- What is written fills a buffer of its length.
-pub written-full : (out f : List ℕ) → length out ≤ length f → written out f ≡ f
-unfolding written
-written-full out f h = rw (drop-of-length-le out h, append-nil)
 
 pub written-length : (out f : List ℕ) → length f ≤ length out → length (written out f) ≡ length out
 unfolding written

@@ -1,19 +1,19 @@
 -- A frame taken apart: it is cut at the length that it says; and a string that is cut so is the frame around the data.
 -- For byte strings this is what the checks F1 to F4 say.
-use mathlib.Core.Path.{_≡_, refl, sym, ap, _∙_}
+use mathlib.Core.Path.{_≡_, refl, sym}
 use mathlib.Core.List.{List, _++_}
 use Prim.Native.Nat.{ℕ, _+_, _≤_}
 use native.Mathlib.Omega.{arith}
 use lib.ListN.{length, take, drop, take-append-drop, length-take, length-drop}
 use lib.Seq.{drop-drop, take-append-seam, drop-append-seam}
-use Rattle.wire.specs.Bytes.{Bytes}
-use Rattle.wire.specs.Number.{little, leBytes}
+use Rattle.number.specs.Bytes.{Bytes}
+use Rattle.number.specs.Number.{little, leBytes}
 use Rattle.wire.specs.Family.{header, tail, headerOf, framed}
 use Rattle.wire.specs.declared.Kind.{Kind}
 use Rattle.wire.specs.declared.Kind.the-variants.{Report, Command}
 use Rattle.wire.specs.declared.MaybeKind.the-variants.{Some}
-use Rattle.wire.proofs.Families.{header-sound, header-complete}
-use Rattle.put.proofs.Bytes.{bytes-take, bytes-drop, little-leBytes, leBytes-little}
+use Rattle.wire.proofs.Families.{header-sound}
+use Rattle.put.proofs.Bytes.{bytes-take, bytes-drop, leBytes-little}
 use Rattle.writer.proofs.Frames.{frame-length}
 
 -- The string s begins as a frame of the family k, says n in two bytes, and ends behind n more as the family does.
@@ -38,10 +38,6 @@ module _ (k : Kind) (n : ℕ) (s : List ℕ) where
   unfolding framed
   cut-framed c =
       rw (cut-data (c .inside)) (joined s (header k) (leBytes 2 n) (tail k) n (c .begins) (c .says) (c .ends))
-
-  pub cut-length : Cut k n s → length s ≡ 10 + n
-  cut-length c =
-      ap length (cut-framed c) ∙ frame-length k (take n (drop 6 s)) ∙ ap (λ x. 10 + x) (cut-data (c .inside))
 
 -- The frame around the data d, whatever the family.
 module _ (d : List ℕ) where
@@ -75,7 +71,7 @@ module _ (d : List ℕ) where
   pub framed-data : (k : Kind) → take (length d) (drop 6 (framed k d)) ≡ d
   framed-data k = rw (framed-behind k) (take-append-seam d (tail k))
 
--- F1 to F4 hold of a byte string exactly if it is cut at the length that it says.
+-- A byte string of which F1 to F4 hold is cut at the length that it says.
 module _ (k : Kind) (s : List ℕ) where
   pub checked-cut : Bytes s → headerOf (take 4 s) ≡ Some k → 6 + little (take 2 (drop 4 s)) ≤ length s
       → drop (6 + little (take 2 (drop 4 s))) s ≡ tail k → Cut k (little (take 2 (drop 4 s))) s
@@ -83,7 +79,3 @@ module _ (k : Kind) (s : List ℕ) where
       let l : length (take 2 (drop 4 s)) ≡ 2 = simp (length-take, length-drop) (omega arith) in
       let e = leBytes-little (take 2 (drop 4 s)) (bytes-take 2 (drop 4 s) (bytes-drop 4 s b)) in
       record { begins = header-sound (take 4 s) k f1; says = sym (rw l at e); inside = f3; ends = f4 }
-
-  pub cut-checked : (n : ℕ) → n ≤ 65535 → Cut k n s
-      → (headerOf (take 4 s) ≡ Some k) × (little (take 2 (drop 4 s)) ≡ n)
-  cut-checked n h c = (rw (c .begins) (header-complete k), rw (c .says) (little-leBytes 2 n (omega arith)))

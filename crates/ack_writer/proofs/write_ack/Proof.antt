@@ -78,11 +78,11 @@ returns-2 c =
     let a = known .before .before .args in
     let good = sym (test .writable .ensures) ∙ not-false _ (first .before .before .if1 .left) in
     let fit = writable-sound _ _ _ _ good in
+    let bytes = bytes-all (a .payload .now) (λ i. omega (arith, known .shared-slice-known .given i)) in
     let filled = data-filled (a .word) (a .status) (a .payload .now) _ _ _ (fit .short) (first .put-u16 .ensures .1)
     (second .put-u162 .ensures .1) (third .put .ensures .1) in
-    ack-put (a .word) (a .ok) (a .status) (a .payload .now) (omega arith) (omega arith)
-    (bytes-all (a .payload .now) (λ i. omega (arith, known .shared-slice-known .given i))) (a .out .now) _ _ _ good filled
-    (c .before .before .put-frame .ensures)
+    ack-put (a .word) (a .ok) (a .status) (a .payload .now) (omega arith) (omega arith) bytes (a .out .now) _ _ _ good
+    filled (c .before .before .put-frame .ensures)
 
 pub write-ack-spec : {M : Type 1} → statement M
 write-ack-spec =

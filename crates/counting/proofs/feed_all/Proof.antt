@@ -6,8 +6,8 @@ use Prim.Native.Nat.{ℕ, _+_, _-_, _<_}
 use native.Mathlib.Omega.{arith}
 use lib.ListN.{length, drop, length-drop}
 use lib.Seq.{take-all}
-use Rattle.framing.specs.Bytes.{Bytes}
-use Rattle.framing.proofs.Bytes.{bytes-at}
+use Rattle.engine.specs.Bytes.{Bytes}
+use Rattle.engine.proofs.Bytes.{bytes-at}
 use Rattle.parser.specs.Feed.{feedSliceOf}
 use Rattle.parser.specs.declared.FedSlice.{FedSlice}
 use Rattle.counting.proofs.Rest.{Rest, rest-start, rest-end, rest-further}

@@ -1,7 +1,7 @@
 -- `engineering::extra_array` meets its contract. Assumes nothing.
 use mathlib.Core.Path.{_∙_}
 use borrow.Author.Needs.{needs}
-use Rattle.wire.proofs.Prefixes.{prefixed-zeros}
+use Rattle.byte_string.proofs.Prefixes.{prefixed-zeros}
 use Rattle.engineering.proofs.extra_array.Statement.{statement}
 use Rattle.engineering.proofs.extra_array.Tie as tie
 

@@ -1,12 +1,18 @@
--- What divisions are, and how often one breaks: cited from Division, Scanner, Append and Resyncs. Assumes nothing.
+-- What divisions are, and how often one breaks: cited from Division, Scanner, Append, Events and Resyncs. Assumes
+-- nothing.
+use mathlib.Core.List.{[]}
 use Rattle.framing.specs.Tests.{framingOf}
 use Rattle.framing.specs.Scanner.{pieces}
+use Rattle.framing.specs.Sample.{sample, stream}
 use Rattle.framing.proofs.Division.{division-spelled, division-length}
+use Rattle.framing.proofs.View.{nothing-waits, rest-waits}
 use Rattle.framing.proofs.Scanner.{division-unique, division-exists, division-behind}
 use Rattle.framing.proofs.Append.{division-append, total-append}
+use Rattle.framing.proofs.Events.{event}
 use Rattle.framing.proofs.Resyncs.{resynced-bound, resynced-reached}
 use Rattle.framing.specs.Claims.{DivisionExists, DivisionUnique, DivisionSpelled, DivisionLength}
-use Rattle.framing.specs.Claims.{DivisionAppend, TotalAppend, DivisionBehind, ResyncsBound, ResyncsReached}
+use Rattle.framing.specs.Claims.{DivisionAppend, TotalAppend, DivisionBehind, PendingWaits}
+use Rattle.framing.specs.Claims.{DivisionEnds, ResyncsBound, ResyncsReached, SampleDivision}
 use Rattle.framing.proofs.division_claims.Statement.{statement}
 use Rattle.framing.proofs.division_claims.Tie as tie
 
@@ -38,6 +44,14 @@ behind : DivisionBehind
 unfolding DivisionBehind
 behind X p s w = division-behind (framingOf X) p s w
 
+pending : PendingWaits
+unfolding PendingWaits
+pending X s = rest-waits (framingOf X) [] s (nothing-waits (framingOf X))
+
+frame-ends : DivisionEnds
+unfolding DivisionEnds
+frame-ends X s c t ps d f = event (framingOf X) s c t d f
+
 bound : ResyncsBound
 unfolding ResyncsBound
 bound X s ps d = resynced-bound (framingOf X) d
@@ -46,8 +60,17 @@ reached : ResyncsReached
 unfolding ResyncsReached
 reached X c w n m ps d = resynced-reached (framingOf X) c (w .0) (w .1) n m d
 
+divides : SampleDivision
+unfolding SampleDivision
+divides = division-exists (framingOf sample) stream
+
+followed-by : {R : Type 0} → R → DivisionAppend × (TotalAppend × (DivisionBehind × (PendingWaits × (DivisionEnds × R))))
+followed-by r = (appended, (totals, (behind, (pending, (frame-ends, r)))))
+
 returns : tie.Need-returns
-returns c = (exists, (unique, (spelled, (lengths, (appended, (totals, (behind, (bound, reached))))))))
+returns c =
+    let last : ResyncsBound × (ResyncsReached × SampleDivision) = (bound, (reached, divides)) in
+    (exists, (unique, (spelled, (lengths, followed-by last))))
 
 pub division-claims-spec : {M : Type 1} → statement M
 division-claims-spec = tie.close (tie.spec returns)

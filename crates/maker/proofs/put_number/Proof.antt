@@ -4,7 +4,7 @@ use mathlib.Core.Path.{refl}
 use mathlib.Core.List.{[], _∷_}
 use native.Mathlib.Omega.{arith}
 use borrow.Author.Needs.{needs}
-use Rattle.wire.specs.Number.{leBytes}
+use Rattle.number.specs.Number.{leBytes}
 use Rattle.maker.proofs.Requests.{made-short, made-whole}
 use Rattle.maker.proofs.put_number.Statement.{statement}
 use Rattle.maker.proofs.put_number.Tie as tie

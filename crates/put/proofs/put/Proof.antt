@@ -4,8 +4,8 @@ use mathlib.Core.Path.{_≡_, refl, sym, _∙_}
 use Prim.Native.Nat.{_+_, _-_, _≤_}
 use native.Mathlib.Omega.{arith}
 use lib.ListN.{length, length-set}
-use Rattle.wire.specs.Prefix.{over}
-use Rattle.wire.proofs.Prefixes.{over-nil, over-more}
+use Rattle.byte_string.specs.Prefix.{over}
+use Rattle.byte_string.proofs.Prefixes.{over-nil, over-more}
 use Rattle.put.proofs.Puts.{placed-fits, placed-fails, put-fits, put-fails}
 use Rattle.put.proofs.put.Statement.{statement}
 use Rattle.put.proofs.put.Tie as tie

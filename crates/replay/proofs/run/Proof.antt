@@ -8,11 +8,11 @@ use Rattle.replay.proofs.run.Statement.{statement}
 use Rattle.replay.proofs.run.Tie as tie
 
 abbrev Inv-loop : tie.InvT-loop
-Inv-loop input₀ out₀ kept₀ taken₀ long₀ ended₀ turns₀ input out kept taken long ended turns =
+Inv-loop input₀ out₀ kept₀ taken₀ turns₀ input out kept taken turns =
     (length input ≡ length input₀) × (kept ≤ length input)
 
 abbrev μ-loop : tie.MeasureT-loop
-μ-loop input₀ out₀ kept₀ taken₀ long₀ ended₀ turns₀ input out kept taken long ended turns = turns
+μ-loop input₀ out₀ kept₀ taken₀ turns₀ input out kept taken turns = turns
 
 loop-holds : tie.Need-loop-holds Inv-loop μ-loop
 loop-holds c = search needs
@@ -32,6 +32,15 @@ part-all-end c = search needs
 all-requires : tie.Need-all-requires Inv-loop μ-loop
 all-requires c κs = search needs
 
+finish-requires : tie.Need-finish-requires Inv-loop μ-loop
+finish-requires c κs = search needs
+
+same-length : tie.Need-same-length Inv-loop μ-loop
+same-length c = search needs
+
+returns : tie.Need-returns Inv-loop μ-loop
+returns c = search needs
+
 keep-requires : tie.Need-keep-requires Inv-loop μ-loop
 keep-requires c κs = search needs
 
@@ -44,17 +53,11 @@ loop-less c = search needs
 loop-again : tie.Need-loop-again Inv-loop μ-loop
 loop-again c = search needs
 
-ending-requires : tie.Need-ending-requires Inv-loop μ-loop
-ending-requires c κs = search needs
+same-length-2 : tie.Need-same-length-2 Inv-loop μ-loop
+same-length-2 c = search needs
 
-flush-requires : tie.Need-flush-requires Inv-loop μ-loop
-flush-requires c κs = search needs
-
-same-length : tie.Need-same-length Inv-loop μ-loop
-same-length c = search needs
-
-returns : tie.Need-returns Inv-loop μ-loop
-returns c = search needs
+returns-2 : tie.Need-returns-2 Inv-loop μ-loop
+returns-2 c = search needs
 
 pub run-spec : {M : Type 1} → statement M
 run-spec =
@@ -68,11 +71,12 @@ run-spec =
     part-all-start
     part-all-end
     all-requires
+    finish-requires
+    same-length
+    returns
     keep-requires
     sub-turns
     loop-less
     loop-again
-    ending-requires
-    flush-requires
-    same-length
-    returns)
+    same-length-2
+    returns-2)

@@ -4,7 +4,7 @@ use mathlib.Core.Bool.{true}
 use native.Mathlib.Omega.{arith}
 use borrow.Author.Tests.{not-true, not-false}
 use borrow.Author.Needs.{needs}
-use Rattle.report_data.specs.Writable.{writable}
+use Rattle.writable.specs.Writable.{writable}
 use Rattle.report_data.proofs.lay.Statement.{statement}
 use Rattle.report_data.proofs.lay.Tie as tie
 

@@ -3,7 +3,7 @@
 use mathlib.Core.Path.{sym}
 use native.Mathlib.Omega.{arith}
 use borrow.Author.Needs.{needs}
-use Rattle.report_data.proofs.Counts.{Within}
+use Rattle.writable.proofs.Counts.{Within}
 use Rattle.report_data.proofs.Typed.{TypedBlock, block-typed}
 use Rattle.report_data.proofs.Puts.{none-put, on-within, on-block, block-put, block-length}
 use Rattle.report_data.proofs.put_block.Statement.{statement}

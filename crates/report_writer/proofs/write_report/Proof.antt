@@ -8,7 +8,7 @@ use lib.Seq.{length-take-le}
 use borrow.Author.Tests.{not-true, not-false}
 use borrow.Author.Needs.{needs}
 use Rattle.report_data.specs.Data.{reportData}
-use Rattle.report_data.specs.Writable.{writable}
+use Rattle.writable.specs.Writable.{writable}
 use Rattle.report_data.proofs.Typed.{TypedReport, report-typed}
 use Rattle.report_data.proofs.Puts.{laid-flag, data-laid}
 use Rattle.report_writer.proofs.Answers.{complete}

@@ -1,7 +1,7 @@
 -- `wire::gate_array` meets its contract. Assumes nothing.
 use mathlib.Core.Path.{_∙_}
 use borrow.Author.Needs.{needs}
-use Rattle.wire.proofs.Prefixes.{prefixed-zeros}
+use Rattle.byte_string.proofs.Prefixes.{prefixed-zeros}
 use Rattle.wire.proofs.gate_array.Statement.{statement}
 use Rattle.wire.proofs.gate_array.Tie as tie
 

@@ -3,7 +3,7 @@
 use borrow.Author.Needs.{needs}
 use mathlib.Core.Path.{sym, _∙_}
 use native.Mathlib.Omega.{arith}
-use Rattle.wire.proofs.Numbers.{le16-some, le16-none}
+use Rattle.number.proofs.Numbers.{le16-some, le16-none}
 use Rattle.ack.specs.Ack.{ackOf}
 use Rattle.ack.proofs.Reading.{checked-short, checked-clear, checked-set}
 use Rattle.ack.proofs.Ack.checked.Statement.{statement}

@@ -1,9 +1,9 @@
 -- `ack::Ack::parameters` meets its contract, by what `expect` answers. Assumes nothing.
 use borrow.Author.Needs.{needs}
 use mathlib.Core.Path.{sym, _∙_}
-use Rattle.reply.specs.Replies.{parametersReply, parametersAs}
+use Rattle.parameters.specs.Parameters.{parametersReply, parametersAs}
 use Rattle.ack.proofs.Awaiting.{replied-read, replied-refused}
-use Rattle.reply.proofs.Answers.{parameters-outcome}
+use Rattle.parameters.proofs.Sensitivities.{parameters-outcome}
 use Rattle.ack.proofs.Ack.parameters.Statement.{statement}
 use Rattle.ack.proofs.Ack.parameters.Tie as tie
 

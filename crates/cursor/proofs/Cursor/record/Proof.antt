@@ -1,6 +1,6 @@
 -- `cursor::Cursor::record` meets its contract: Method.antt's theorem, over `put_record`. Assumes nothing.
 use mir.Syntax.{w16, w32}
-use Rattle.wire.specs.Number.{leBytes}
+use Rattle.number.specs.Number.{leBytes}
 use Rattle.cursor.proofs.Param.{numbers}
 use Rattle.cursor.proofs.Method.{method₂}
 use Rattle.put.proofs.put_record.Symbol as g

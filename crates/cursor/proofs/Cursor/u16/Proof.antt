@@ -1,6 +1,6 @@
 -- `cursor::Cursor::u16` meets its contract: Method.antt's theorem, over `put_u16`. Assumes nothing.
 use mir.Syntax.{w16}
-use Rattle.wire.specs.Number.{leBytes}
+use Rattle.number.specs.Number.{leBytes}
 use Rattle.cursor.proofs.Param.{number}
 use Rattle.cursor.proofs.Method.{method₁}
 use Rattle.put.proofs.put_u16.Symbol as g

@@ -1,6 +1,6 @@
 -- `cursor::Cursor::u32` meets its contract: Method.antt's theorem, over `put_u32`. Assumes nothing.
 use mir.Syntax.{w32}
-use Rattle.wire.specs.Number.{leBytes}
+use Rattle.number.specs.Number.{leBytes}
 use Rattle.cursor.proofs.Param.{number}
 use Rattle.cursor.proofs.Method.{method₁}
 use Rattle.put.proofs.put_u32.Symbol as g

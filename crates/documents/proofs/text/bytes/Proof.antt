@@ -6,19 +6,16 @@ use Rattle.documents.proofs.text.bytes.Statement.{statement}
 use Rattle.documents.proofs.text.bytes.Tie as tie
 
 abbrev Inv-loop : tie.InvT-loop
-Inv-loop name values i₀ t4 i = i ≤ length values
+Inv-loop values i₀ t2 i = i ≤ length values
 
 abbrev μ-loop : tie.MeasureT-loop
-μ-loop name values i₀ t4 i = length values - i
-
-text-requires : tie.Need-text-requires Inv-loop μ-loop
-text-requires c κs = search needs
+μ-loop values i₀ t2 i = length values - i
 
 loop-holds : tie.Need-loop-holds Inv-loop μ-loop
 loop-holds c = search needs
 
-slice-aggregate-hex : tie.Need-slice-aggregate-hex Inv-loop μ-loop
-slice-aggregate-hex c = search needs
+slice-aggregate-number : tie.Need-slice-aggregate-number Inv-loop μ-loop
+slice-aggregate-number c = search needs
 
 shared-slice-read-wide : tie.Need-shared-slice-read-wide Inv-loop μ-loop
 shared-slice-read-wide c = search needs
@@ -26,8 +23,8 @@ shared-slice-read-wide c = search needs
 wide-requires : tie.Need-wide-requires Inv-loop μ-loop
 wide-requires c κs = search needs
 
-hex-requires : tie.Need-hex-requires Inv-loop μ-loop
-hex-requires c κs = search needs
+number-requires : tie.Need-number-requires Inv-loop μ-loop
+number-requires c κs = search needs
 
 add-i : tie.Need-add-i Inv-loop μ-loop
 add-i c = search needs
@@ -47,12 +44,11 @@ bytes-spec =
     (tie.spec
     Inv-loop
     μ-loop
-    text-requires
     loop-holds
-    slice-aggregate-hex
+    slice-aggregate-number
     shared-slice-read-wide
     wide-requires
-    hex-requires
+    number-requires
     add-i
     loop-less
     loop-again

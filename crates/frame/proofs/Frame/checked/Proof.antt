@@ -1,144 +1,56 @@
+-- `frame::Frame::checked` meets its contract: the envelope's checks, then the body's. Assumes nothing.
 use mathlib.Core.Path.{_≡_, sym, ap, _∙_}
 use Prim.Native.Nat.{ℕ, _+_, _-_}
 use native.Mathlib.Omega.{arith}
 use mathlib.Core.List.{List}
 use lib.ListN.{take, drop}
-use lib.Seq.{length-take-le}
 use denote.Ref.{now}
-use borrow.Author.Tests.{not-true, not-false}
-use borrow.Rule.Slice.PartAt.{part-to-end}
-use Rattle.wire.proofs.Numbers.{There, le16-some, le16-none}
 use Rattle.wire.specs.declared.Kind.{Kind}
-use Rattle.wire.specs.declared.MaybeKind.the-variants as Found
-use Rattle.frame.specs.Frame.{family, announced, decoded}
-use Rattle.frame.proofs.Answers.{short-family, fails-F1, fails-F2, fails-F3, fails-F4, passes-framing}
+use Rattle.envelope.specs.Envelope.{announced, envelope}
+use Rattle.envelope.specs.declared.Envelope.the-variants.{Data}
+use Rattle.envelope.proofs.Opened.{Held, opened-data}
+use Rattle.frame.specs.Frame.{decoded}
+use Rattle.frame.proofs.Answers.{fails-framing, passes-framing}
 use borrow.Author.Needs.{needs}
 use Rattle.frame.proofs.Frame.checked.Statement.{statement}
 use Rattle.frame.proofs.Frame.checked.Tie as tie
 
-failing-requires : tie.Need-failing-requires
-failing-requires c κs = search needs
+-- What is known once the envelope is opened: the bytes, the family, and where the data end.
+abbrev bytes : tie.After-known-told2 → List ℕ
+bytes c = now (c .before .before .before .before .before .args .bytes)
 
--- What is known once the header is one, and once the length is there: the bytes, the family, the length.
-abbrev bytes : tie.After-known-told → List ℕ
-bytes c = now (c .before .before .before .before .before .before .before .args .bytes)
-
-abbrev kind : tie.After-known-told → Kind
+abbrev kind : tie.After-known-told2 → Kind
 kind c = c .before .kind .given .0 .0
 
-abbrev headed : tie.After-known-told2 → tie.After-known-told
-headed c = c .before .before .before .before
+abbrev end : tie.After-known-told2 → ℕ
+end c = c .before .kind .given .0 .1 .0
 
-abbrev len : tie.After-known-told2 → ℕ
-len c = c .before .len .given .0 .0
+opened : (c : tie.After-known-told2) → envelope (bytes c) ≡ Data (kind c) (end c)
+opened c = sym (c .before .before .before .open .ensures) ∙ c .before .kind .given .1
 
--- The family that the header announces.
-announces : (c : tie.After-known-told) → family (bytes c) ≡ Found.Some (kind c)
-announces c = sym (c .before .before .before .of-header .ensures) ∙ c .before .kind .given .1
+held : (c : tie.After-known-told2) → Held (bytes c) (kind c) (end c)
+held c = opened-data _ _ _ (opened c)
 
--- The two length bytes, and the length that they are.
-length-there : (c : tie.After-known-told2) → There 2 (bytes (headed c)) 4 (len c)
-length-there c = le16-some _ 4 _ (sym (c .before .before .before .le16 .ensures) ∙ c .before .len .given .1)
+open-requires : tie.Need-open-requires
+open-requires c κs = search needs
 
-returns : tie.Need-returns
-returns c =
-    let s = now (c .before .before .before .args .bytes) in
-    c .failing .ensures ∙ sym (fails-F1 s (short-family s (c .before .if1 .taken)))
+enum-known-check : tie.Need-enum-known-check
+enum-known-check c = search needs
 
-slice-aggregate-of-header : tie.Need-slice-aggregate-of-header
-slice-aggregate-of-header c =
-    let s = now (c .before .before .before .args .bytes) in
-    sym (length-take-le 4 s (c .before .if1 .left))
-
-of-header-requires : tie.Need-of-header-requires
-of-header-requires c κs = search needs
+failing-requires : tie.Need-failing-requires
+failing-requires c κs = search needs
 
 enum-known-kind : tie.Need-enum-known-kind
 enum-known-kind c = search needs
 
-enum-told : tie.Need-enum-told
-enum-told c = search needs
-
-failing-requires-2 : tie.Need-failing-requires-2
-failing-requires-2 c κs = search needs
-
-returns-2 : tie.Need-returns-2
-returns-2 c =
-    c .failing2 .ensures
-    ∙ sym (fails-F1 _ (sym (c .before .before .before .of-header .ensures) ∙ c .before .enum-told .given .1))
-
-le16-requires : tie.Need-le16-requires
-le16-requires c κs = search needs
-
-enum-known-len : tie.Need-enum-known-len
-enum-known-len c = search needs
-
-enum-told-2 : tie.Need-enum-told-2
-enum-told-2 c = search needs
-
-failing-requires-3 : tie.Need-failing-requires-3
-failing-requires-3 c κs = search needs
-
-returns-3 : tie.Need-returns-3
-returns-3 c =
-    c .failing3 .ensures ∙ sym (fails-F2 _ _ (announces (c .before .before .before .before))
-    (le16-none _ 4 (sym (c .before .before .before .le16 .ensures) ∙ c .before .enum-told2 .given .1)))
-
-cast-end : tie.Need-cast-end
-cast-end c = search needs
-
-add-end : tie.Need-add-end
-add-end c = search needs
-
-failing-requires-4 : tie.Need-failing-requires-4
-failing-requires-4 c κs = search needs
-
-returns-4 : tie.Need-returns-4
-returns-4 c =
-    let read = c .before .before in
-    let at = length-there read in
-    c .failing4 .ensures
-    ∙ sym (fails-F3 _ _ (announces (headed read)) (at .inside) (omega (arith, at .value, c .before .if2 .taken)))
-
-tail-requires : tie.Need-tail-requires
-tail-requires c κs = search needs
-
-sub-same : tie.Need-sub-same
-sub-same c = search needs
-
-part-same-start : tie.Need-part-same-start
-part-same-start c = search needs
-
-part-same-end : tie.Need-part-same-end
-part-same-end c = search needs
-
-slice-aggregate-same : tie.Need-slice-aggregate-same
-slice-aggregate-same c = search needs
-
-same-requires : tie.Need-same-requires
-same-requires c κs = search needs
-
-failing-requires-5 : tie.Need-failing-requires-5
-failing-requires-5 c κs = search needs
-
-returns-5 : tie.Need-returns-5
-returns-5 c =
-    let ends = c .before .before .before .before .before in
-    let read = ends .before .before in
-    let at = length-there read in
-    let last = sym (c .before .before .same .ensures) ∙ not-true _ (c .before .if3 .taken) in
-    c .failing5 .ensures
-    ∙ sym (fails-F4 _ _ (announces (headed read)) (at .inside) (omega (arith, at .value, ends .before .if2 .left))
-    (rw (part-to-end, ends .tail .ensures, at .value) at last))
-
 sub-decode-at : tie.Need-sub-decode-at
-sub-decode-at c = search needs
+sub-decode-at c = omega (arith, held c .ends)
 
 part-decode-at-start : tie.Need-part-decode-at-start
-part-decode-at-start c = search needs
+part-decode-at-start c = omega (arith, held c .ends)
 
 part-decode-at-end : tie.Need-part-decode-at-end
-part-decode-at-end c = search needs
+part-decode-at-end c = omega (arith, held c .ends, held c .inside)
 
 add-decode-at : tie.Need-add-decode-at
 add-decode-at c = search needs
@@ -146,50 +58,30 @@ add-decode-at c = search needs
 decode-at-requires : tie.Need-decode-at-requires
 decode-at-requires c κs = search needs
 
-returns-6 : tie.Need-returns-6
-returns-6 c =
-    let ends = c .before .before .before .before .before .before in
-    let read = ends .before .before in
-    let head = headed read in
-    let at = length-there read in
-    let last = sym (c .before .before .before .same .ensures) ∙ not-false _ (c .before .before .if3 .left) in
-    let held : 6 + len read - 6 ≡ announced (bytes head) = omega (arith, at .value) in
-    c .decode-at .ensures ∙ ap (λ n. decoded 10 (kind head) (take n (drop 6 (bytes head)))) held
-    ∙ sym (passes-framing _ _ (announces head) (at .inside) (omega (arith, at .value, ends .before .if2 .left))
-    (rw (part-to-end, ends .tail .ensures, at .value) at last))
+returns : tie.Need-returns
+returns c =
+    let read = c .before .before .before .before .open .ensures in
+    c .failing .ensures ∙ sym (fails-framing _ _ (sym read ∙ c .before .before .check .given .1))
+
+returns-2 : tie.Need-returns-2
+returns-2 c =
+    let told = c .before .before in
+    let size : end told - 6 ≡ announced (bytes told) = omega (arith, held told .ends) in
+    c .decode-at .ensures ∙ ap (λ n. decoded 10 (kind told) (take n (drop 6 (bytes told)))) size
+    ∙ sym (passes-framing _ _ _ (opened told))
 
 pub checked-spec : {M : Type 1} → statement M
 checked-spec =
     tie.close
     (tie.spec
+    open-requires
+    enum-known-check
     failing-requires
-    returns
-    slice-aggregate-of-header
-    of-header-requires
     enum-known-kind
-    enum-told
-    failing-requires-2
-    returns-2
-    le16-requires
-    enum-known-len
-    enum-told-2
-    failing-requires-3
-    returns-3
-    cast-end
-    add-end
-    failing-requires-4
-    returns-4
-    tail-requires
-    sub-same
-    part-same-start
-    part-same-end
-    slice-aggregate-same
-    same-requires
-    failing-requires-5
-    returns-5
     sub-decode-at
     part-decode-at-start
     part-decode-at-end
     add-decode-at
     decode-at-requires
-    returns-6)
+    returns
+    returns-2)

@@ -1,55 +1,19 @@
--- `parser::Parser::fed_slice` meets its contract: what the run ended is emitted. Assumes nothing.
-use borrow.Author.Needs.{needs}
-use Rattle.feeding.specs.Moved.{sliceMovedOf, sliceBufOf}
+-- `parser::Parser::fed_slice` meets its contract: LocalFeed.antt walks it, over what `Parser::feed_slice` promises.
+-- Assumes nothing.
+use Rattle.limit.specs.Length.{linkMost}
 use Rattle.parser.specs.Feed.{feedSliceOf}
-use Rattle.feeding.proofs.Endings.{emits-frame, emits-none}
-use Rattle.parser.proofs.Parser.fed_slice.Statement.{statement}
-use Rattle.parser.proofs.Parser.fed_slice.Tie as tie
+use Rattle.parser.proofs.Extra.{bytes}
+use Rattle.parser.proofs.Answers.{taken-told, taken-handed}
+use Rattle.parser.proofs.LocalFeed.{local-feed}
+use Rattle.parser.proofs.Parser.feed_slice.Symbol as g
+use Rattle.parser.proofs.Parser.feed_slice.Met as g-thm
+use Rattle.parser.proofs.Parser.fed_slice.Key as key
+use Rattle.parser.proofs.Parser.fed_slice.Statement as stated
+use Rattle.parser.proofs.Parser.fed_slice.Code as code
 
-run-at-requires : tie.Need-run-at-requires
-run-at-requires c κs = search needs
-
-enum-known-ended : tie.Need-enum-known-ended
-enum-known-ended c = search needs
-
-emit-requires : tie.Need-emit-requires
-emit-requires c κs = search needs
-
-tally-requires : tie.Need-tally-requires
-tally-requires c κs = search needs
-
-enum-told : tie.Need-enum-told
-enum-told c = search needs
-
-none-requires : tie.Need-none-requires
-none-requires c κs = search needs
-
-returns : tie.Need-returns
-unfolding sliceMovedOf sliceBufOf feedSliceOf
-returns c =
-    let ran = c .before .before .before .before .before .before .before .before .run-at in
-    let found = c .before .before .before .before .ended .given in
-    let made = emits-frame (ran .result .scan) (ran .result .stats) (ran .last .0) (ran .result .ended) (found .0 .0)
-    (found .0 .1 .0) _ _ (found .1) (c .before .emit .ensures) (c .tally .ensures) in
-    rw (← ran .ensures .0, ← ran .ensures .1, ← made)
-
-returns-2 : tie.Need-returns-2
-unfolding sliceMovedOf sliceBufOf feedSliceOf
-returns-2 c =
-    let ran = c .before .before .before .before .before .run-at in
-    let made = emits-none (ran .result .scan) (ran .result .stats) (ran .last .0) (ran .result .ended) _
-    (c .before .enum-told .given .1) (c .none .ensures) in
-    rw (← ran .ensures .0, ← ran .ensures .1, ← made)
-
-pub fed-slice-spec : {M : Type 1} → statement M
-fed-slice-spec =
-    tie.close
-    (tie.spec
-    run-at-requires
-    enum-known-ended
-    emit-requires
-    tally-requires
-    enum-told
-    none-requires
-    returns
-    returns-2)
+pub fed-slice-spec : {M : Type 1} → stated.statement M
+unfolding code.routine
+fed-slice-spec 𝓤 H 𝓜 𝓖 𝓡 =
+    local-feed bytes taken-told taken-handed (feedSliceOf linkMost)
+    𝓤 H 𝓜 𝓖 𝓡 code.env key.name g.name (code.unfolded 𝓤 H 𝓜 𝓡)
+    g.routine code.calls-parser·Parser·feed-slice (g-thm.met 𝓤 H 𝓜 𝓖 𝓡)

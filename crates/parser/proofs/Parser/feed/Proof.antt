@@ -1,5 +1,5 @@
 -- `parser::Parser::feed` meets its contract: LentFeed.antt walks it, over what `feed_at` promises. Assumes nothing.
-use Rattle.stream.specs.Link.{linkMost}
+use Rattle.limit.specs.Length.{linkMost}
 use Rattle.feeding.specs.Moved.{movedOf, bufOf}
 use Rattle.parser.specs.Feed.{feedOf}
 use Rattle.parser.proofs.Extra.{byte}

@@ -1,6 +1,6 @@
 -- `parser::Parser::feed_slice` meets its contract: LentFeed.antt walks it, over what `feed_slice_at` promises.
 -- Assumes nothing.
-use Rattle.stream.specs.Link.{linkMost}
+use Rattle.limit.specs.Length.{linkMost}
 use Rattle.feeding.specs.Moved.{sliceMovedOf, sliceBufOf}
 use Rattle.parser.specs.Feed.{feedSliceOf}
 use Rattle.parser.proofs.Extra.{bytes}

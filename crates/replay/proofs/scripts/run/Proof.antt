@@ -7,10 +7,10 @@ use Rattle.replay.proofs.scripts.run.Statement.{statement}
 use Rattle.replay.proofs.scripts.run.Tie as tie
 
 abbrev Inv-loop : tie.InvT-loop
-Inv-loop out₀ taken op lent script now₀ n₀ at₀ out now n at = at ≤ length script
+Inv-loop out₀ taken op script now₀ n₀ at₀ out now n at = at ≤ length script
 
 abbrev μ-loop : tie.MeasureT-loop
-μ-loop out₀ taken op lent script now₀ n₀ at₀ out now n at = length script - at
+μ-loop out₀ taken op script now₀ n₀ at₀ out now n at = length script - at
 
 loop-holds : tie.Need-loop-holds Inv-loop μ-loop
 loop-holds c = search needs

@@ -2,9 +2,9 @@
 use borrow.Author.Needs.{needs}
 use mathlib.Core.Path.{sym, _∙_}
 use native.Mathlib.Omega.{arith}
-use Rattle.wire.proofs.Numbers.{byte-some, byte-none}
+use Rattle.number.proofs.Numbers.{byte-some, byte-none}
 use Rattle.reply.specs.Replies.{macOf, macAs}
-use Rattle.wire.proofs.Prefixes.{prefixed-full}
+use Rattle.byte_string.proofs.Prefixes.{prefixed-full}
 use Rattle.reply.proofs.Payloads.{sized-long, sized-short}
 use Rattle.reply.proofs.Mac.read.Statement.{statement}
 use Rattle.reply.proofs.Mac.read.Tie as tie

@@ -1,0 +1,129 @@
+// The reader of command frames: the command that encodes to the bytes.
+//
+// The word and the values in a frame leave one command that may encode to it: the reader encodes it, and compares.
+use asking::asks;
+use asking::number_in;
+use byte_string::same;
+use command::Command;
+use refusal::Error;
+use setting::Baud;
+use setting::Gate;
+use setting::MaybeBaud;
+use wire::word;
+use writer::WriteResult;
+ghost use mathlib.Core.Path.{_≡_};
+ghost use Rattle.command_reader.specs.Read.{gateFor, baudFor, guess, guessIn, ifEncodesTo, commandOf};
+ghost use Rattle.command_reader.specs.Read.{ReadCauses, EncodedBack, WrittenAgain};
+
+// Longest frame of a command.
+const MAX_COMMAND: usize = 30;
+
+// Where the word begins in a frame, where a two-byte value does, and where the values of the three records do.
+const WORD: usize = 6;
+
+const NUMBER: usize = 8;
+
+const FIRST: usize = 10;
+
+const SECOND: usize = 16;
+
+const THIRD: usize = 22;
+
+// What the reader answers: the command, or the refusal.
+pub enum CommandResult {
+    Ok(Command),
+    Err(Error),
+}
+
+// The gate with the value, of which only the lowest byte counts where it is not the value for all.
+fn gate_for(value: u16) -> Gate
+    ensures found { λ r. ⌜ r ≡ gateFor value ⌝ }
+{
+    if value == 0xFFFF {
+        Gate::All
+    } else {
+        Gate::Index((value % 256) as u8)
+    }
+}
+
+// The rate for the index, or any where the module knows none.
+fn baud_for(index: u16) -> Baud
+    ensures found { λ r. ⌜ r ≡ baudFor index ⌝ }
+{
+    let MaybeBaud::Some(baud) = Baud::from_index(index) else {
+        return Baud::B9600;
+    };
+    baud
+}
+
+// The only command that may have this word, and this number for its value or these values in its records. For a word
+// that no command has, any will do: it does not encode to the bytes.
+fn guess(word: u16, number: u16, first: u16, second: u16, third: u16) -> Command
+    ensures guessed { λ r. ⌜ r ≡ guess word number first second third ⌝ }
+{
+    match word {
+        word::ENABLE_CONFIG => Command::EnableConfig,
+        word::SET_MAX_GATES => Command::SetMaxGates {
+            moving: (first % 256) as u8,
+            stationary: (second % 256) as u8,
+            no_one_secs: third,
+        },
+        word::READ_PARAMETERS => Command::ReadParameters,
+        word::ENGINEERING_ON => Command::EngineeringMode(true),
+        word::ENGINEERING_OFF => Command::EngineeringMode(false),
+        word::SET_SENSITIVITY => Command::SetSensitivity {
+            gate: gate_for(first),
+            moving: (second % 256) as u8,
+            stationary: (third % 256) as u8,
+        },
+        word::READ_FIRMWARE => Command::ReadFirmware,
+        word::SET_BAUD => Command::SetBaud(baud_for(number)),
+        word::FACTORY_RESET => Command::FactoryReset,
+        word::RESTART => Command::Restart,
+        word::BLUETOOTH => Command::Bluetooth(number == 1),
+        word::READ_MAC => Command::ReadMac,
+        _ => Command::EndConfig,
+    }
+}
+
+// The only command that may encode to the bytes, if one does. Only the word and the lowest bytes of each value are
+// looked at.
+fn guess_in(bytes: &[u8]) -> Command
+    ensures guessed { λ r. ⌜ r ≡ guessIn (now (bytes .entry)) ⌝ }
+{
+    let number = number_in(bytes, NUMBER);
+    let first = number_in(bytes, FIRST);
+    let second = number_in(bytes, SECOND);
+    let third = number_in(bytes, THIRD);
+    guess(number_in(bytes, WORD), number, first, second, third)
+}
+
+// The command, if it encodes to the bytes.
+fn if_encodes_to(command: Command, bytes: &[u8]) -> CommandResult
+    ensures read { λ r. ⌜ r ≡ ifEncodesTo (now (bytes .entry)) command ⌝ }
+{
+    let mut frame: [u8; MAX_COMMAND] = [0; MAX_COMMAND];
+    let WriteResult::Ok(n) = command.encode(&mut frame) else {
+        return CommandResult::Err(Error::UnknownCommand);
+    };
+    if same(&frame[..n], bytes) {
+        CommandResult::Ok(command)
+    } else {
+        CommandResult::Err(Error::UnknownCommand)
+    }
+}
+
+// Reads a command frame: the command that encodes to the bytes. Refuses with 1 what is not one whole frame of the
+// command family with a word whose ACK bit is clear, with 5 such a frame to whose bytes no command encodes. What
+// `Command::encode` writes is read as the command, and what is read is written again as the same bytes.
+pub fn read_command(bytes: &[u8]) -> CommandResult
+    ensures read { λ r. ⌜ r ≡ commandOf (now (bytes .entry)) ⌝ }
+    ensures causes { λ r. ⌜ ReadCauses (now (bytes .entry)) r ⌝ }
+    ensures back { λ _. ⌜ EncodedBack ⌝ }
+    ensures again { λ r. ⌜ WrittenAgain (now (bytes .entry)) r ⌝ }
+{
+    if !asks(bytes) {
+        return CommandResult::Err(Error::InvalidFormat);
+    }
+    if_encodes_to(guess_in(bytes), bytes)
+}

@@ -1,0 +1,125 @@
+-- Answers and counts behind the open string p: what one byte does to them, and bytes that stand before a call.
+use mathlib.Core.Path.{_≡_, refl, sym, _∙_, ap, subst}
+use mathlib.Core.List.{List, [], _∷_, _++_, append-assoc, cons≢nil}
+use mathlib.Core.Option.{Option, none, some}
+use Prim.Native.Nat.{ℕ, zero, suc, _+_, _<_}
+use native.Mathlib.Omega.{arith}
+use lib.ListN.{length, take, length-append}
+use Rattle.framing.specs.Framing.{Framing, Piece}
+use Rattle.framing.specs.Division.{EndsAt}
+use Rattle.framing.specs.Scanner.{step, rest}
+use Rattle.framing.proofs.Ends.{ends-out, ends-in}
+use Rattle.framing.proofs.Scanner.{from}
+use Rattle.framing.proofs.Events.{none≢some, step-event, event-step, shift}
+use Rattle.engine.specs.Engine.{Decoding}
+use Rattle.engine.specs.Calls.{Did, fed, sliced, cleared}
+use Rattle.engine.specs.Correct.{Answered, frame, no-frame, no-byte, Told, to-frame, to-end}
+use Rattle.engine.specs.Lawful.{answerAt}
+
+pub placed : (ps : List Piece) {m n : ℕ} {f : List ℕ} → m ≡ n → EndsAt ps m f → EndsAt ps n f
+placed ps {f = f} e x = subst (λ (i : ℕ). EndsAt ps i f) e x
+
+module _ (F : Framing) where
+  -- What lies behind bytes that the scanner has taken in is shifted.
+  module _ (p u v : List ℕ) (n j : ℕ) (f : List ℕ) (h : 0 < j) where
+    shifted-out : EndsAt (from F (rest F p u) v) (length (rest F p u) + n + j) f
+        → EndsAt (from F p (u ++ v)) (length p + (length u + n) + j) f
+    shifted-out x = placed (from F p (u ++ v)) (omega arith) (ends-out (shift F p u v (n + j) f (omega arith) .1
+        (ends-in (placed (from F (rest F p u) v) (omega arith) x))))
+
+    shifted-in : EndsAt (from F p (u ++ v)) (length p + (length u + n) + j) f
+        → EndsAt (from F (rest F p u) v) (length (rest F p u) + n + j) f
+    shifted-in x = placed (from F (rest F p u) v) (omega arith) (ends-out (shift F p u v (n + j) f (omega arith) .0
+        (ends-in (placed (from F p (u ++ v)) (omega arith) x))))
+
+  -- No frame ends at a byte where the scanner ends none.
+  no-event : (p : List ℕ) (b : ℕ) (v : List ℕ) → step F p b .ended ≡ none
+      → (f : List ℕ) → ¬ EndsAt (from F p (b ∷ v)) (length p + 0 + 1) f
+  no-event p b v q f x =
+      none≢some (sym q ∙ step-event F p b v f (ends-in (placed (from F p (b ∷ v)) (omega arith) x)))
+
+  -- Counts, behind other bytes, and behind one more byte at which no frame ended.
+  told-behind : (p u v : List ℕ) (n m k : ℕ) → Told (from F (rest F p u) v) (length (rest F p u) + n) m k
+      → Told (from F p (u ++ v)) (length p + (length u + n)) m k
+  told-behind p u v n m k (to-frame f h l x none-before) = to-frame f h l (shifted-out p u v n k f h x)
+      (λ j g h′ l′ y. none-before j g h′ l′ (shifted-in p u v n j g h′ y))
+  told-behind p u v n m k (to-end e none-there) =
+      to-end e (λ j g h′ l′ y. none-there j g h′ l′ (shifted-in p u v n j g h′ y))
+
+  module _ (p : List ℕ) (b : ℕ) (bs : List ℕ) (q : step F p b .ended ≡ none) where
+    abbrev NoneIn : List ℕ → List Piece → ℕ → Type 0
+    NoneIn p ps k = (j : ℕ) (g : List ℕ) → 0 < j → j < k → ¬ EndsAt ps (length p + 0 + j) g
+
+    none-more : (k : ℕ) → NoneIn (step F p b .pending) (from F (step F p b .pending) bs) k
+        → NoneIn p (from F p (b ∷ bs)) (suc k)
+    none-more k none-before zero g h l x = omega arith
+    none-more k none-before (suc zero) g h l x = no-event p b bs q g x
+    none-more k none-before (suc (suc i)) g h l x = none-before (suc i) g (omega arith) (omega arith)
+        (shifted-in p (b ∷ []) bs 0 (suc i) g (omega arith) (placed (from F p (b ∷ bs)) (omega arith) x))
+
+    pub told-more : (m k : ℕ) → Told (from F (step F p b .pending) bs) (length (step F p b .pending) + 0) m k
+        → Told (from F p (b ∷ bs)) (length p + 0) (suc m) (suc k)
+    told-more m k (to-frame f h l x none-before) = to-frame f (omega arith) (omega arith)
+        (placed (from F p (b ∷ bs)) (omega arith) (shifted-out p (b ∷ []) bs 0 k f h x)) (none-more k none-before)
+    told-more m k (to-end e none-there) = to-end (ap suc e)
+        (λ j g h l. none-more (suc m) (λ i g′ h′ l′. none-there i g′ h′ (omega arith)) j g h (omega arith))
+
+  pub told-here : (p : List ℕ) (b : ℕ) (bs f : List ℕ) → step F p b .ended ≡ some f
+      → Told (from F p (b ∷ bs)) (length p + 0) (suc (length bs)) 1
+  told-here p b bs f q = to-frame f (omega arith) (omega arith)
+      (placed (from F p (b ∷ bs)) (omega arith) (ends-out (event-step F p b bs f q))) (λ j g h l y. omega arith)
+
+  module _ {A : Type 0} (D : Decoding A) where
+    -- Answers, behind other bytes.
+    answered-behind : (p u v : List ℕ) (n : ℕ) (t : List ℕ) (a : A)
+        → Answered D (from F (rest F p u) v) (length (rest F p u) + n) t a
+        → Answered D (from F p (u ++ v)) (length p + (length u + n)) t a
+    answered-behind p u v n [] a (frame f ne x e) = absurd (ne refl)
+    answered-behind p u v n [] a (no-frame x e) = no-byte refl e
+    answered-behind p u v n [] a (no-byte z e) = no-byte refl e
+    answered-behind p u v n (b ∷ t) a (frame f ne x e) =
+        frame f ne (shifted-out p u v n (suc (length t)) f (omega arith) x) e
+    answered-behind p u v n (b ∷ t) a (no-frame x e) =
+        no-frame (λ f y. x f (shifted-in p u v n (suc (length t)) f (omega arith) y)) e
+    answered-behind p u v n (b ∷ t) a (no-byte z e) = no-byte z e
+
+    -- A byte's answer.
+    pub answered-byte : (p : List ℕ) (b : ℕ) (v : List ℕ) (a : A) → a ≡ answerAt D (step F p b .ended)
+        → Answered D (from F p (b ∷ v)) (length p + 0) (b ∷ []) a
+    answered-byte p b v a e = go (step F p b .ended) refl
+      where
+        go : (o : Option (List ℕ)) → step F p b .ended ≡ o
+            → Answered D (from F p (b ∷ v)) (length p + 0) (b ∷ []) a
+        go none q = no-frame (no-event p b v q) (e ∙ ap (answerAt D) q)
+        go (some f) q = frame f cons≢nil
+            (placed (from F p (b ∷ v)) (omega arith) (ends-out (event-step F p b v f q))) (e ∙ ap (answerAt D) q)
+
+    -- One more byte in front, at which no frame ended.
+    pub answered-more : (p : List ℕ) (b : ℕ) (t v : List ℕ) (a : A) → step F p b .ended ≡ none
+        → Answered D (from F (step F p b .pending) (t ++ v)) (length (step F p b .pending) + 0) t a
+        → Answered D (from F p (b ∷ (t ++ v))) (length p + 0) (b ∷ t) a
+    answered-more p b [] v a q (frame f ne x e) = absurd (ne refl)
+    answered-more p b [] v a q (no-frame x e) = no-frame (no-event p b v q) e
+    answered-more p b [] v a q (no-byte z e) = no-frame (no-event p b v q) e
+    answered-more p b (c ∷ t) v a q (frame f ne x e) = frame f cons≢nil (placed (from F p (b ∷ (c ∷ t ++ v)))
+        (omega arith) (shifted-out p (b ∷ []) (c ∷ t ++ v) 0 (suc (length t)) f (omega arith) x)) e
+    answered-more p b (c ∷ t) v a q (no-frame x e) =
+        no-frame (λ f y. x f (shifted-in p (b ∷ []) (c ∷ t ++ v) 0 (suc (length t)) f (omega arith)
+        (placed (from F p (b ∷ (c ∷ t ++ v))) (omega arith) y))) e
+    answered-more p b (c ∷ t) v a q (no-byte z e) = absurd (cons≢nil z)
+
+    -- A whole call, behind p and the bytes u of a stretch that has the bytes v.
+    abbrev pub RightBehind : (p u v : List ℕ) → Did A → Type 0
+    RightBehind p u v (fed b a) = Answered D (from F p v) (length p + length u) (b ∷ []) a
+    RightBehind p u v (sliced bs k a) = Answered D (from F p v) (length p + length u) (take k bs) a
+        × Told (from F p (u ++ bs)) (length p + length u) (length bs) k
+    RightBehind p u v cleared = Unit {0}
+
+    pub right-behind : (p w u v : List ℕ) (d : Did A) → RightBehind (rest F p w) u v d
+        → RightBehind p (w ++ u) (w ++ v) d
+    right-behind p w u v (fed b a) x = rw length-append (answered-behind p w v (length u) (b ∷ []) a x)
+    right-behind p w u v (sliced bs k a) x = rw (length-append, append-assoc) (
+      answered-behind p w v (length u) (take k bs) a (x .0),
+      told-behind p w (u ++ bs) (length u) (length bs) k (x .1),
+    )
+    right-behind p w u v cleared x = tt

@@ -1,0 +1,19 @@
+-- `number::byte_at` meets its contract, by the laws of a number of one byte. Assumes nothing.
+use mathlib.Core.Path.{sym}
+use borrow.Author.Needs.{needs}
+use native.Mathlib.Omega.{arith}
+use Rattle.number.proofs.Numbers.{there-one, byte-there, byte-missing}
+use Rattle.number.proofs.byte_at.Statement.{statement}
+use Rattle.number.proofs.byte_at.Tie as tie
+
+shared-slice-read-t7 : tie.Need-shared-slice-read-t7
+shared-slice-read-t7 c = search needs
+
+returns : tie.Need-returns
+returns c = sym (byte-there _ _ (there-one _ _ (c .before .if1 .taken)))
+
+returns-2 : tie.Need-returns-2
+returns-2 c = sym (byte-missing _ _ (omega arith))
+
+pub byte-at-spec : {M : Type 1} → statement M
+byte-at-spec = tie.close (tie.spec shared-slice-read-t7 returns returns-2)

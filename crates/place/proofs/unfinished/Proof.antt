@@ -1,0 +1,20 @@
+-- `place::unfinished` meets its contract. Assumes nothing.
+use mathlib.Core.Path.{_∙_}
+use borrow.Author.Needs.{needs}
+use Rattle.scan.specs.Scan.{unfinishedBy}
+use Rattle.scan.proofs.Orders.{settled-order}
+use Rattle.place.proofs.unfinished.Statement.{statement}
+use Rattle.place.proofs.unfinished.Tie as tie
+
+settled-requires : tie.Need-settled-requires
+settled-requires c κs = search needs
+
+progress-requires : tie.Need-progress-requires
+progress-requires c κs = rw (c .settled .ensures) (settled-order _ _)
+
+returns : tie.Need-returns
+unfolding unfinishedBy
+returns c = c .progress .ensures ∙ rw (c .before .settled .ensures)
+
+pub unfinished-spec : {M : Type 1} → statement M
+unfinished-spec = tie.close (tie.spec settled-requires progress-requires returns)

@@ -1,0 +1,13 @@
+-- `report::Report::made` meets its contract. Assumes nothing.
+use borrow.Author.Needs.{needs}
+use Rattle.report.proofs.Report.made.Statement.{statement}
+use Rattle.report.proofs.Report.made.Tie as tie
+
+from-byte-requires : tie.Need-from-byte-requires
+from-byte-requires c κs = search needs
+
+returns : tie.Need-returns
+returns c = rw (c .from-byte .ensures)
+
+pub made-spec : {M : Type 1} → statement M
+made-spec = tie.close (tie.spec from-byte-requires returns)

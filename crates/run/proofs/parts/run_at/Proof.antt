@@ -1,0 +1,19 @@
+-- `run::parts::run_at` meets its contract: a settled scan is in order. Assumes nothing.
+use borrow.Author.Needs.{needs}
+use Rattle.scan.proofs.Orders.{settled-order}
+use Rattle.run.proofs.parts.run_at.Statement.{statement}
+use Rattle.run.proofs.parts.run_at.Tie as tie
+
+settled-requires : tie.Need-settled-requires
+settled-requires c κs = search needs
+
+scan-slice-requires : tie.Need-scan-slice-requires
+scan-slice-requires c κs = rw (c .settled .ensures) (settled-order _ _)
+
+returns : tie.Need-returns
+returns c =
+    let settled = c .before .settled .ensures in
+    (rw (c .scan-slice .ensures .0, settled), rw (c .scan-slice .ensures .1, settled))
+
+pub run-at-spec : {M : Type 1} → statement M
+run-at-spec = tie.close (tie.spec settled-requires scan-slice-requires returns)

@@ -1,0 +1,57 @@
+-- `writable::is_within` meets its contract: the three counts are tested in turn. Assumes nothing.
+use mathlib.Core.Path.{sym, _∙_}
+use borrow.Author.Tests.{not-true, not-false}
+use Rattle.writable.proofs.Counts.{within-first, within-second, within-third}
+use borrow.Author.Needs.{needs}
+use Rattle.writable.proofs.is_within.Statement.{statement}
+use Rattle.writable.proofs.is_within.Tie as tie
+
+slice-aggregate-is-counted : tie.Need-slice-aggregate-is-counted
+slice-aggregate-is-counted c = search needs
+
+is-counted-requires : tie.Need-is-counted-requires
+is-counted-requires c κs = search needs
+
+returns : tie.Need-returns
+returns c = sym (within-first _ _ _ _ (sym (c .before .is-counted .ensures) ∙ not-true _ (c .if1 .taken)))
+
+slice-aggregate-is-counted-2 : tie.Need-slice-aggregate-is-counted-2
+slice-aggregate-is-counted-2 c = search needs
+
+is-counted-requires-2 : tie.Need-is-counted-requires-2
+is-counted-requires-2 c κs = search needs
+
+returns-2 : tie.Need-returns-2
+returns-2 c =
+    let first = c .before .before .before .before in
+    let moving = sym (first .before .is-counted .ensures) ∙ not-false _ (first .if1 .left) in
+    let stationary = sym (c .before .is-counted2 .ensures) ∙ not-true _ (c .if2 .taken) in
+    sym (within-second _ _ _ _ moving stationary)
+
+slice-aggregate-is-counted-3 : tie.Need-slice-aggregate-is-counted-3
+slice-aggregate-is-counted-3 c = search needs
+
+is-counted-requires-3 : tie.Need-is-counted-requires-3
+is-counted-requires-3 c κs = search needs
+
+returns-3 : tie.Need-returns-3
+returns-3 c =
+    let second = c .before .before .before in
+    let first = second .before .before .before .before in
+    let moving = sym (first .before .is-counted .ensures) ∙ not-false _ (first .if1 .left) in
+    let stationary = sym (second .before .is-counted2 .ensures) ∙ not-false _ (second .if2 .left) in
+    c .is-counted3 .ensures ∙ sym (within-third _ _ _ _ moving stationary)
+
+pub is-within-spec : {M : Type 1} → statement M
+is-within-spec =
+    tie.close
+    (tie.spec
+    slice-aggregate-is-counted
+    is-counted-requires
+    returns
+    slice-aggregate-is-counted-2
+    is-counted-requires-2
+    returns-2
+    slice-aggregate-is-counted-3
+    is-counted-requires-3
+    returns-3)
