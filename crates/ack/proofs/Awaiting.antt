@@ -7,11 +7,12 @@ use Prim.Native.Nat.{ℕ}
 use native.Mathlib.Omega.{arith}
 use lib.Dec.{eqb}
 use borrow.Author.Tests.{eqb-true, eqb-false, eq-eqb, ne-eqb}
+use Rattle.refusal.specs.Refusal.{Returned, returned}
 use Rattle.refusal.specs.declared.Error.{Error}
 use Rattle.refusal.specs.declared.Error.the-variants.{InvalidFormat, Hardware}
 use Rattle.refusal.specs.declared.Outcome.{Outcome}
 use Rattle.refusal.specs.declared.Outcome.the-variants.{Ok, Err}
-use Rattle.ack.specs.Awaited.{awaited, AwaitedCauses, spanAs, outcomeOfSpan, expected}
+use Rattle.ack.specs.Awaited.{awaited, AwaitedCauses, spanAs, expected, errorIn, noSpan, returnedSpan}
 use Rattle.reply.specs.Reply.{Reply, judged, readAs}
 use Rattle.span.specs.Span.{payloadIn}
 use Rattle.span.specs.declared.Span.{Span}
@@ -36,44 +37,53 @@ judged-err false ok p q fits = cc
 judged-err true false p q fits = cc
 judged-err true true p q fits = let z : _≡_ {A = ℕ} 0 1 = cc in absurd (omega arith)
 
-module _ (a : Ack) (w : ℕ) where
+module _ (a : Ack) (w : ℕ) {A : Type 0} (z v : A) where
   judged-causes : (same ok fits : Bool) → eqb (a .word) w ≡ same → a .ok ≡ ok
-      → AwaitedCauses a w fits (judged same ok fits)
+      → AwaitedCauses z a w fits (returned z (judged same ok fits) v)
   judged-causes false ok fits e f =
       let other : a .word ≢ w = eqb-false (a .word) w e in
       record {
-        accepted = (λ z. absurd (omega arith), λ h. absurd (other (h .0)));
-        invalid = (λ z. inl other, λ h. refl);
-        hardware = (λ z. absurd (omega arith), λ h. absurd (other (h .0)));
+        accepted = (λ n. absurd (omega arith), λ h. absurd (other (h .0)));
+        invalid = (λ n. inl other, λ h. refl);
+        hardware = (λ n. absurd (omega arith), λ h. absurd (other (h .0)));
+        total = inr (inl refl);
+        blank = λ n. refl;
       }
   judged-causes true false fits e f =
       let same = eqb-true (a .word) w e in
       record {
-        accepted = (λ z. absurd (omega arith), λ h. clash (h .1) f);
-        invalid = (λ z. absurd (omega arith), ⊎-elim (λ h. absurd (h same)) (λ h. clash (h .1) f));
-        hardware = (λ z. (same, f), λ h. refl);
+        accepted = (λ n. absurd (omega arith), λ h. clash (h .1) f);
+        invalid = (λ n. absurd (omega arith), ⊎-elim (λ h. absurd (h same)) (λ h. clash (h .1) f));
+        hardware = (λ n. (same, f), λ h. refl);
+        total = inr (inr refl);
+        blank = λ n. refl;
       }
   judged-causes true true false e f =
       let same = eqb-true (a .word) w e in
       record {
-        accepted = (λ z. absurd (omega arith), λ h. clash (h .2) refl);
-        invalid = (λ z. inr (same, f, refl), λ h. refl);
-        hardware = (λ z. absurd (omega arith), λ h. clash f (h .1));
+        accepted = (λ n. absurd (omega arith), λ h. clash (h .2) refl);
+        invalid = (λ n. inr (same, f, refl), λ h. refl);
+        hardware = (λ n. absurd (omega arith), λ h. clash f (h .1));
+        total = inr (inl refl);
+        blank = λ n. refl;
       }
   judged-causes true true true e f =
       let same = eqb-true (a .word) w e in
       record {
-        accepted = (λ z. (same, f, refl), λ h. refl);
-        invalid = (λ z. absurd (omega arith), ⊎-elim (λ h. absurd (h same)) (λ h. clash refl (h .2)));
-        hardware = (λ z. absurd (omega arith), λ h. clash f (h .1));
+        accepted = (λ n. (same, f, refl), λ h. refl);
+        invalid = (λ n. absurd (omega arith), ⊎-elim (λ h. absurd (h same)) (λ h. clash refl (h .2)));
+        hardware = (λ n. absurd (omega arith), λ h. clash f (h .1));
+        total = inl refl;
+        blank = λ n. absurd (n refl);
       }
 
-  -- Whoever awaits a word gives each number exactly in its cause.
-  pub awaited-causes : (fits : Bool) → AwaitedCauses a w fits (awaited a w fits)
+  -- Whoever awaits a word gives each number exactly in its cause, and 0 in every other field.
+  pub awaited-causes : (fits : Bool) → AwaitedCauses z a w fits (returned z (awaited a w fits) v)
   unfolding awaited
   awaited-causes fits = judged-causes (eqb (a .word) w) (a .ok) fits refl refl
 
-  -- What `expect` answers.
+-- What `expect` answers.
+module _ (a : Ack) (w : ℕ) where
   pub expected-other : a .word ≢ w → expected a w ≡ Spanned.Err InvalidFormat
   unfolding expected awaited
   expected-other h = rw (ne-eqb (a .word) w h)
@@ -86,39 +96,44 @@ module _ (a : Ack) (w : ℕ) where
   unfolding expected awaited
   expected-given h e = rw (eq-eqb (a .word) w h, e)
 
-  span-outcome : (o : Outcome) → outcomeOfSpan (spanAs o (a .payload)) ≡ o
-  span-outcome Ok = refl
-  span-outcome (Err e) = refl
+  span-returned : (o : Outcome) → returnedSpan (spanAs o (a .payload)) ≡ returned noSpan o (a .payload)
+  span-returned Ok = refl
+  span-returned (Err e) = refl
 
   -- Both clauses of its contract.
   pub expected-whole : {r : SpanResult} → expected a w ≡ r
-      → (r ≡ expected a w) × AwaitedCauses a w true (outcomeOfSpan r)
+      → (r ≡ expected a w) × AwaitedCauses noSpan a w true (returnedSpan r)
   unfolding expected
-  expected-whole e = (sym e, rw (← e, span-outcome (awaited a w true)) (awaited-causes true))
+  expected-whole e =
+      (sym e, rw (← e, span-returned (awaited a w true)) (awaited-causes a w noSpan (a .payload) true))
 
--- The answer to an acknowledgement, where `outcome` is an answer's outcome.
-module _ {A B : Type 0} (answer : Outcome → A → B) (outcome : B → Outcome)
-    (outcome-of : (o : Outcome) (v : A) → outcome (answer o v) ≡ o) (r : Reply A) (a : Ack) (s : List ℕ) where
+-- The answer to an acknowledgement, where `give` tells what an answer returns.
+module _ {A B : Type 0} (z : A) (answer : Outcome → A → B) (give : B → Returned A)
+    (give-answer : (o : Outcome) (v : A) → give (answer o v) ≡ returned z o v)
+    (r : Reply A) (a : Ack) (s : List ℕ) where
+  abbrev read : A
+  read = r .value (payloadIn s (a .payload))
+
   -- Both clauses of its contract.
   abbrev Whole : B → Type 0
-  Whole b = (b ≡ replied answer r a s) × ReplyCauses r a s (outcome b)
+  Whole b = (b ≡ replied answer r a s) × ReplyCauses z r a s (give b)
 
   whole : {b : B} → b ≡ replied answer r a s → Whole b
   unfolding replied
-  whole e = (e, rw (e, outcome-of) (awaited-causes a (r .word) (r .fits (payloadIn s (a .payload)))))
+  whole e = (e, rw (e, give-answer) (awaited-causes a (r .word) z read (r .fits (payloadIn s (a .payload)))))
 
   -- Where `expect` gives the payload, it is read.
-  pub replied-read : {b : B} {p : Span} {q : List ℕ} → expected a (r .word) ≡ Spanned.Ok p → q ≡ payloadIn s p
-      → b ≡ readAs answer r q → Whole b
+  pub replied-read : {x : SpanResult} {b : B} {p : Span} {q : List ℕ} → x ≡ expected a (r .word) → x ≡ Spanned.Ok p
+      → q ≡ payloadIn s p → b ≡ readAs answer r q → Whole b
   unfolding expected awaited readAs replied
-  replied-read e f g =
-      let told = judged-ok (eqb (a .word) (r .word)) (a .ok) (a .payload) e in
+  replied-read e t f g =
+      let told = judged-ok (eqb (a .word) (r .word)) (a .ok) (a .payload) (sym e ∙ t) in
       whole (rw (g, f, told .1, told .0 (r .fits (payloadIn s (a .payload)))))
 
   -- Where `expect` refuses, so does the reply.
-  pub replied-refused : {b : B} {e : Error} → expected a (r .word) ≡ Spanned.Err e
-      → b ≡ answer (Err e) (r .value (payloadIn s (a .payload))) → Whole b
+  pub replied-refused : {x : SpanResult} {b : B} {d e : Error} → x ≡ expected a (r .word) → x ≡ Spanned.Err e
+      → d ≡ errorIn x → b ≡ answer (Err d) read → Whole b
   unfolding expected awaited replied
-  replied-refused e g =
-      let told = judged-err (eqb (a .word) (r .word)) (a .ok) (a .payload) e in
-      whole (rw (g, told (r .fits (payloadIn s (a .payload)))))
+  replied-refused e t f g =
+      let told = judged-err (eqb (a .word) (r .word)) (a .ok) (a .payload) (sym e ∙ t) in
+      whole (rw (g, f, t, told (r .fits (payloadIn s (a .payload)))))

@@ -5,13 +5,15 @@ use Prim.Native.Nat.{ℕ, _/_, _%_, _≤_, _<_}
 use native.Mathlib.Omega.{arith}
 use lib.ListN.{length}
 use borrow.Author.Tests.{le-leb, lt-leb, eq-eqb, ne-eqb}
+use Rattle.refusal.specs.Refusal.{returned}
 use Rattle.refusal.specs.Check.{firstFailed, outcomeOf, Causes}
 use Rattle.refusal.specs.declared.Check.{Check}
 use Rattle.refusal.specs.declared.Check.the-variants.{A1, A2}
 use Rattle.refusal.specs.declared.MaybeCheck.{MaybeCheck}
 use Rattle.refusal.specs.declared.MaybeCheck.the-variants as Maybe
 use Rattle.refusal.proofs.Checks.{causes}
-use Rattle.ack.specs.Ack.{wordIn, ackChecks, ackOf, checkedAs, checkedAck, parsedAs, parsedAck, outcomeOfAck}
+use Rattle.ack.specs.Ack.{wordIn, ackChecks, ackOf, checkedAs, checkedAck, parsedAs, parsedAck}
+use Rattle.ack.specs.Ack.{noAck, returnedAck}
 use Rattle.ack.specs.declared.Ack.{Ack}
 use Rattle.ack.specs.declared.CheckedAck.{CheckedAck}
 use Rattle.ack.specs.declared.CheckedAck.the-variants as Checked
@@ -26,9 +28,9 @@ as-failed : (o : MaybeCheck) (b : Ack) {c : Check} → checkedAs o b ≡ Checked
 as-failed (Maybe.Some c) b e = cc
 as-failed Maybe.None b e = let z : _≡_ {A = ℕ} 0 1 = cc in absurd (omega arith)
 
-as-outcome : (o : MaybeCheck) (a : Ack) → outcomeOfAck (parsedAs (checkedAs o a)) ≡ outcomeOf o
-as-outcome (Maybe.Some c) a = refl
-as-outcome Maybe.None a = refl
+as-returned : (o : MaybeCheck) (a : Ack) → returnedAck (parsedAs (checkedAs o a)) ≡ returned noAck (outcomeOf o) a
+as-returned (Maybe.Some c) a = refl
+as-returned Maybe.None a = refl
 
 module _ (s : List ℕ) where
   pub passed-complete : firstFailed ackChecks s ≡ Maybe.None → checkedAck s ≡ Checked.Ok (ackOf s)
@@ -65,8 +67,8 @@ module _ (s : List ℕ) where
 
   -- Both clauses of the contract of `parse`.
   pub parsed-whole : {k : CheckedAck} {r : AckResult} → checkedAck s ≡ k → r ≡ parsedAs k
-      → (r ≡ parsedAck s) × Causes ackChecks s (outcomeOfAck r)
+      → (r ≡ parsedAck s) × Causes noAck ackChecks s (returnedAck r)
   unfolding checkedAck parsedAck
   parsed-whole e q =
       let told = q ∙ ap parsedAs (sym e) in
-      (told, rw (told, as-outcome (firstFailed ackChecks s) (ackOf s)) (causes ackChecks s))
+      (told, rw (told, as-returned (firstFailed ackChecks s) (ackOf s)) (causes ackChecks s noAck (ackOf s)))

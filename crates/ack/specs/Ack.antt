@@ -6,19 +6,19 @@
 --   ackOf s          the acknowledgement that data which pass them are read as
 --   checkedAck s     the reader's answer: the acknowledgement, or the first check that fails
 --   parsedAck s      the same with the refusal that the check gives
---   outcomeOfAck r   whether the answer r is a refusal, and which
+--   noAck            every field 0
+--   returnedAck r    the number and the values that the answer r returns
 use mathlib.Core.List.{List, [], _∷_}
-use mathlib.Core.Bool.{Bool}
+use mathlib.Core.Bool.{Bool, false}
 use Prim.Native.Nat.{ℕ, _-_, _/_, _%_}
 use lib.Dec.{leb, eqb}
 use lib.ListN.{length, take, drop}
 use Rattle.number.specs.Number.{little}
+use Rattle.refusal.specs.Refusal.{Returned, accepted, refused}
 use Rattle.refusal.specs.Check.{Checks, firstFailed, errorOf}
 use Rattle.refusal.specs.declared.Check.the-variants.{A1, A2}
 use Rattle.refusal.specs.declared.MaybeCheck.{MaybeCheck}
 use Rattle.refusal.specs.declared.MaybeCheck.the-variants as Maybe
-use Rattle.refusal.specs.declared.Outcome.{Outcome}
-use Rattle.refusal.specs.declared.Outcome.the-variants as Outcome
 use Rattle.ack.specs.declared.Ack.{Ack}
 use Rattle.ack.specs.declared.CheckedAck.{CheckedAck}
 use Rattle.ack.specs.declared.CheckedAck.the-variants as Checked
@@ -64,6 +64,9 @@ parsedAs (Checked.Ok a) = Ok a
 unfoldable pub parsedAck : List ℕ → AckResult
 parsedAck s = parsedAs (checkedAck s)
 
-abbrev pub outcomeOfAck : AckResult → Outcome
-outcomeOfAck (Ok a) = Outcome.Ok
-outcomeOfAck (Err e) = Outcome.Err e
+abbrev pub noAck : Ack
+noAck = record { word = 0; ok = false; status = 0; payload = record { start = 0; len = 0 } }
+
+abbrev pub returnedAck : AckResult → Returned Ack
+returnedAck (Ok a) = accepted a
+returnedAck (Err e) = refused noAck e

@@ -20,13 +20,13 @@ use wire::word;
 ghost use mathlib.Core.Path.{_≡_};
 ghost use mathlib.Core.Bool.{true};
 ghost use Rattle.refusal.specs.Check.{Causes};
-ghost use Rattle.ack.specs.Ack.{ackChecks, checkedAck, parsedAck, outcomeOfAck};
-ghost use Rattle.ack.specs.Awaited.{expected, outcomeOfSpan, AwaitedCauses};
+ghost use Rattle.ack.specs.Ack.{ackChecks, checkedAck, parsedAck, noAck, returnedAck};
+ghost use Rattle.ack.specs.Awaited.{expected, errorIn, noSpan, returnedSpan, AwaitedCauses};
 ghost use Rattle.ack.specs.Awaited.{replied, ReplyCauses};
-ghost use Rattle.reply.specs.Replies.{enableConfigReply, enableConfigAs, outcomeOfEnableConfig};
-ghost use Rattle.reply.specs.Replies.{firmwareReply, firmwareAs, outcomeOfFirmware};
-ghost use Rattle.reply.specs.Replies.{macReply, macAs};
-ghost use Rattle.parameters.specs.Parameters.{parametersReply, parametersAs};
+ghost use Rattle.reply.specs.Replies.{enableConfigReply, noEnableConfig, enableConfigAs, returnedEnableConfig};
+ghost use Rattle.reply.specs.Replies.{firmwareReply, noFirmware, firmwareAs, returnedFirmware};
+ghost use Rattle.reply.specs.Replies.{macReply, noMac, macAs, returnedMac};
+ghost use Rattle.parameters.specs.Parameters.{parametersReply, noParameters, parametersAs, returnedParameters};
 
 // An acknowledgement from the module. Its word is the request's, with the ACK bit cleared, so that it compares directly
 // with the constants of the module `word`. `ok` is read as status 0.
@@ -53,6 +53,18 @@ pub enum AckResult {
 pub enum SpanResult {
     Ok(Span),
     Err(Error),
+}
+
+impl SpanResult {
+    // The refusal, for who found no payload.
+    fn error(self) -> Error
+        ensures told { λ r. ⌜ r ≡ errorIn self ⌝ }
+    {
+        match self {
+            SpanResult::Ok(_) => Error::InvalidFormat,
+            SpanResult::Err(error) => error,
+        }
+    }
 }
 
 impl Ack {
@@ -84,7 +96,7 @@ impl Ack {
     // ACK bit is not set (a command of the host).
     pub fn parse(data: &[u8]) -> AckResult
         ensures parsed { λ r. ⌜ r ≡ parsedAck (now («data» .entry)) ⌝ }
-        ensures causes { λ r. ⌜ Causes ackChecks (now («data» .entry)) (outcomeOfAck r) ⌝ }
+        ensures causes { λ r. ⌜ Causes noAck ackChecks (now («data» .entry)) (returnedAck r) ⌝ }
     {
         match Ack::checked(data) {
             CheckedAck::Ok(ack) => AckResult::Ok(ack),
@@ -96,7 +108,7 @@ impl Ack {
     // acknowledgement, then 3 where the module reported a failure.
     pub fn expect(self, word: u16) -> SpanResult
         ensures awaited { λ r. ⌜ r ≡ expected self word ⌝ }
-        ensures causes { λ r. ⌜ AwaitedCauses self word true (outcomeOfSpan r) ⌝ }
+        ensures causes { λ r. ⌜ AwaitedCauses noSpan self word true (returnedSpan r) ⌝ }
     {
         if self.word != word {
             return SpanResult::Err(Error::InvalidFormat);
@@ -112,45 +124,51 @@ impl Ack {
     // short payload.
     pub fn enable_config(self, bytes: &[u8]) -> EnableConfigResult
         ensures answered { λ r. ⌜ r ≡ replied enableConfigAs enableConfigReply self (now (bytes .entry)) ⌝ }
-        ensures causes { λ r. ⌜ ReplyCauses enableConfigReply self (now (bytes .entry)) (outcomeOfEnableConfig r) ⌝ }
+        ensures causes { λ r. ⌜ ReplyCauses noEnableConfig enableConfigReply self (now (bytes .entry))
+            (returnedEnableConfig r) ⌝ }
     {
-        match self.expect(word::ENABLE_CONFIG) {
-            SpanResult::Ok(span) => EnableConfig::read(payload(bytes, span)),
-            SpanResult::Err(error) => EnableConfigResult::Err(error),
-        }
+        let awaited = self.expect(word::ENABLE_CONFIG);
+        let SpanResult::Ok(span) = awaited else {
+            return EnableConfigResult::Err(awaited.error());
+        };
+        EnableConfig::read(payload(bytes, span))
     }
 
     // Reads the reply to `READ_FIRMWARE`. Refusals as `enable_config`.
     pub fn firmware_version(self, bytes: &[u8]) -> FirmwareVersionResult
         ensures answered { λ r. ⌜ r ≡ replied firmwareAs firmwareReply self (now (bytes .entry)) ⌝ }
-        ensures causes { λ r. ⌜ ReplyCauses firmwareReply self (now (bytes .entry)) (outcomeOfFirmware r) ⌝ }
+        ensures causes { λ r. ⌜ ReplyCauses noFirmware firmwareReply self (now (bytes .entry)) (returnedFirmware r) ⌝ }
     {
-        match self.expect(word::READ_FIRMWARE) {
-            SpanResult::Ok(span) => FirmwareVersion::read(payload(bytes, span)),
-            SpanResult::Err(error) => FirmwareVersionResult::Err(error),
-        }
+        let awaited = self.expect(word::READ_FIRMWARE);
+        let SpanResult::Ok(span) = awaited else {
+            return FirmwareVersionResult::Err(awaited.error());
+        };
+        FirmwareVersion::read(payload(bytes, span))
     }
 
     // Reads the reply to `READ_PARAMETERS`. Refusals as `enable_config`, and 1 where the payload does not begin with AA
     // or has more than nine gates.
     pub fn parameters(self, bytes: &[u8]) -> ParametersResult
         ensures answered { λ r. ⌜ r ≡ replied parametersAs parametersReply self (now (bytes .entry)) ⌝ }
-        ensures causes { λ r. ⌜ ReplyCauses parametersReply self (now (bytes .entry)) (r .outcome) ⌝ }
+        ensures causes { λ r. ⌜ ReplyCauses noParameters parametersReply self (now (bytes .entry))
+            (returnedParameters r) ⌝ }
     {
-        match self.expect(word::READ_PARAMETERS) {
-            SpanResult::Ok(span) => Parameters::read(payload(bytes, span)),
-            SpanResult::Err(error) => ParametersResult::refused(error),
-        }
+        let awaited = self.expect(word::READ_PARAMETERS);
+        let SpanResult::Ok(span) = awaited else {
+            return ParametersResult::refused(awaited.error());
+        };
+        Parameters::read(payload(bytes, span))
     }
 
     // Reads the reply to `READ_MAC`. Refusals as `enable_config`.
     pub fn mac(self, bytes: &[u8]) -> MacResult
         ensures answered { λ r. ⌜ r ≡ replied macAs macReply self (now (bytes .entry)) ⌝ }
-        ensures causes { λ r. ⌜ ReplyCauses macReply self (now (bytes .entry)) (r .outcome) ⌝ }
+        ensures causes { λ r. ⌜ ReplyCauses noMac macReply self (now (bytes .entry)) (returnedMac r) ⌝ }
     {
-        match self.expect(word::READ_MAC) {
-            SpanResult::Ok(span) => Mac::read(payload(bytes, span)),
-            SpanResult::Err(error) => MacResult::refused(error),
-        }
+        let awaited = self.expect(word::READ_MAC);
+        let SpanResult::Ok(span) = awaited else {
+            return MacResult::refused(awaited.error());
+        };
+        Mac::read(payload(bytes, span))
     }
 }

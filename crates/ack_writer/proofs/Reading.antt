@@ -32,7 +32,7 @@ use Rattle.envelope.proofs.Framed.{framed-data, framed-length}
 use Rattle.frame.proofs.Answers.{checked-framed}
 use Rattle.number.specs.Bytes.{Bytes}
 use Rattle.writer.proofs.Framing.{checked-cut, cut-framed}
-use Rattle.ack_writer.specs.Read.{acknowledged}
+use Rattle.ack_writer.specs.RoundTrip.{acknowledged}
 
 -- The string f is the frame of the command family with the data d, these pass A1 and A2, and are read as a.
 pub record Holds (f d : List ℕ) (a : Ack) : Type 0 where

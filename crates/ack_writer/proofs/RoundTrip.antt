@@ -18,10 +18,9 @@ use Rattle.span.specs.Span.{payloadIn}
 use Rattle.ack.specs.declared.Ack.{Ack}
 use Rattle.envelope.specs.Envelope.{announced, dataOf}
 use Rattle.frame.specs.Frame.{startingAt}
-use Rattle.envelope.proofs.Framed.{framed-length}
 use Rattle.put.proofs.Bytes.{bytes-take, bytes-drop, leBytes-little}
 use Rattle.ack_writer.specs.Frame.{ackData, ackFrame, writable}
-use Rattle.ack_writer.specs.Read.{acknowledged, ackWith, Reads, WrittenAgain}
+use Rattle.ack_writer.specs.RoundTrip.{ackValue, acknowledged, ackOfValue, ReadAs, ackLimit}
 use Rattle.ack_writer.proofs.Filling.{data-length}
 use Rattle.ack_writer.proofs.Reading.{Holds, read-sound, read-complete, payload-behind}
 
@@ -72,14 +71,14 @@ module _ (w : ℕ) (ok : Bool) (s : ℕ) (p : List ℕ) (wide : w < 65536) (wide
   unfolding ackData
   data-payload = refl
 
-  data-value : Fit w ok s p → startingAt 10 (ackOf (ackData w s p)) ≡ ackWith w ok s (length p)
+  data-value : Fit w ok s p → startingAt 10 (ackOf (ackData w s p)) ≡ ackOfValue (ackValue w ok s p)
   unfolding ackOf
   data-value h =
       let word : wordIn (ackData w s p) - 0x0100 ≡ w = omega (arith, data-word (h .clear)) in
       let len : length (ackData w s p) - 4 ≡ length p = omega (arith, data-length w s p) in
       rw (word, data-status, h .agreed, len)
 
-  pub reads-written : writable w ok s p ≡ true → Reads (ackFrame w s p) w ok s p
+  pub reads-written : writable w ok s p ≡ true → ReadAs (ackFrame w s p) (ackValue w ok s p)
   reads-written e =
       let h = writable-sound w ok s p e in
       let l = data-length w s p in
@@ -108,7 +107,7 @@ module _ (d : List ℕ) (b : Bytes d) (four : 4 ≤ length d) (bit : wordIn d / 
       let k = two-bytes (drop 2 d) (bytes-drop 2 d b) (simp length-drop (omega arith)) in
       rw w (joined (leBytes 2 (wordIn d)) (leBytes 2 (statusIn d)) d (two-bytes d b (omega arith)) k)
 
-  data-fit : length d ≤ 54 → Fit (wordIn d - 0x0100) (eqb (statusIn d) 0) (statusIn d) (drop 4 d)
+  data-fit : length d ≤ ackLimit → Fit (wordIn d - 0x0100) (eqb (statusIn d) 0) (statusIn d) (drop 4 d)
   data-fit h = record { clear = omega arith; agreed = refl; short = simp length-drop (omega arith) }
 
 -- So what is read is written again.
@@ -116,19 +115,20 @@ held-payload : (f d : List ℕ) (a : Ack) → Holds f d a → payloadIn f (a .pa
 unfolding ackOf
 held-payload f d a h = rw (h .value, h .whole) (payload-behind d (h .four))
 
-held-again : (f d : List ℕ) (a : Ack) → Holds f d a → Bytes d → length f ≤ 64
+held-again : (f d : List ℕ) (a : Ack) → Holds f d a → Bytes d → length d ≤ ackLimit
     → (writable (a .word) (a .ok) (a .status) (payloadIn f (a .payload)) ≡ true)
     × (ackFrame (a .word) (a .status) (payloadIn f (a .payload)) ≡ f)
 unfolding ackOf
 held-again f d a h b short =
-    let n : length f ≡ 10 + length d = ap length (h .whole) ∙ framed-length Command d in
-    let fit = data-fit d b (h .four) (h .bit) (omega arith) in
+    let fit = data-fit d b (h .four) (h .bit) short in
     rw (held-payload f d a h, h .value) (
       writable-complete (wordIn d - 0x0100) (eqb (statusIn d) 0) (statusIn d) (drop 4 d) fit,
       ap (framed Command) (data-again d b (h .four) (h .bit)) ∙ sym (h .whole),
     )
 
-pub written-again : WrittenAgain
-written-again f b short a e =
+pub read-again : (f : List ℕ) (w : ℕ) (ok : Bool) (s : ℕ) (p : List ℕ) → Bytes f → length (dataOf f) ≤ ackLimit
+    → ReadAs f (ackValue w ok s p) → (writable w ok s p ≡ true) × (ackFrame w s p ≡ f)
+read-again f w ok s p b short r =
     let d = bytes-take (announced f) (drop 6 f) (bytes-drop 6 f b) in
-    held-again f (dataOf f) a (read-sound f a b e) d (omega arith)
+    let a = ackOfValue (ackValue w ok s p) in
+    rw (r .carried) at (held-again f (dataOf f) a (read-sound f a b (r .given)) d short)

@@ -1,2 +1,2 @@
 pub mod Frame
-pub mod Read
+pub mod RoundTrip

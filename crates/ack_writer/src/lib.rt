@@ -13,8 +13,9 @@ ghost use mathlib.Core.Path.{_≡_};
 ghost use mathlib.Core.Bool.{false};
 ghost use lib.ListN.{length};
 ghost use Rattle.writer.specs.Written.{answerOf, bufferAfter, WriteCauses};
+ghost use Rattle.writer.specs.RoundTrip.{RoundTrip};
 ghost use Rattle.ack_writer.specs.Frame.{ackFrame, writable, unrepresentable};
-ghost use Rattle.ack_writer.specs.Read.{ReadBack, Exact, WrittenAgain};
+ghost use Rattle.ack_writer.specs.RoundTrip.{ackValue, acks};
 
 // Where an acknowledgement's payload begins in its data.
 const PAYLOAD_START: usize = 4;
@@ -45,9 +46,7 @@ pub fn write_ack(out: &mut [u8], word: u16, ok: bool, status: u16, payload: &[u8
         (ackFrame word status (now (payload .entry))) (now (out .entry)) ⌝ }
     ensures causes { λ r. ⌜ WriteCauses 6 (writable word ok status (now (payload .entry)) ≡ false)
         (ackFrame word status (now (payload .entry))) (length (now (out .entry))) r ⌝ }
-    ensures back { λ r. ⌜ ReadBack word ok status (now (payload .entry)) r (now (out .exit)) ⌝ }
-    ensures exact { λ r. ⌜ Exact word ok status (now (payload .entry)) r ⌝ }
-    ensures again { λ _. ⌜ WrittenAgain ⌝ }
+    ensures round { λ _. ⌜ RoundTrip acks (ackValue word ok status (now (payload .entry))) ⌝ }
 {
     if !writable(word, ok, status, payload) {
         return WriteResult::Err(Error::Unrepresentable);

@@ -1,56 +1,86 @@
--- The test of a frame that asks holds exactly of such frames.
-use mathlib.Core.Path.{_≡_, sym, ap, _∙_}
+-- Frames that ask, by the envelope's answer and the number at the place of the word; and the frames around data that
+-- begin with a word ask where its ACK bit is clear.
+use mathlib.Core.Path.{_≡_, ap}
+use mathlib.Core.Logic.{_↔_}
 use mathlib.Core.List.{List}
-use mathlib.Core.Bool.{true, _&&_}
+use mathlib.Core.Bool.{true, false}
 use Prim.Native.Nat.{ℕ, _+_, _≤_}
 use native.Mathlib.Omega.{arith}
-use lib.Dec.{eqb, leb}
-use lib.ListN.{length, take, drop}
-use lib.Seq.{take-append-le}
-use borrow.Author.Tests.{le-leb, leb-true, eq-eqb, eqb-true}
+use lib.Dec.{eqb}
+use lib.ListN.{length, take, drop, length-take, length-drop}
+use lib.Seq.{take-take}
+use borrow.Author.Tests.{eq-eqb, eqb-true}
+use Rattle.refusal.specs.declared.Check.{Check}
+use Rattle.refusal.proofs.Checks.{passes-sound, passes-complete}
 use Rattle.number.specs.Number.{little}
-use Rattle.wire.specs.Family.{tail, framed}
-use Rattle.wire.specs.declared.Kind.the-variants.{Command}
-use Rattle.byte_string.proofs.Equality.{both-true}
 use Rattle.number.proofs.Numbers.{le16-there}
-use Rattle.writer.proofs.Frames.{frame-length}
-use Rattle.writer.proofs.Framing.{framed-behind}
-use Rattle.asking.specs.Asking.{Asks, ackBit, middle, isFrame, orZero, numberIn, asks}
-use Rattle.asking.proofs.Framing.{frame-sound, framed-is}
+use Rattle.wire.specs.Family.{framed}
+use Rattle.wire.specs.declared.Kind.{Kind}
+use Rattle.wire.specs.declared.Kind.the-variants.{Report, Command}
+use Rattle.envelope.specs.Envelope.{announced, dataOf, frameChecks, envelope}
+use Rattle.envelope.specs.declared.Envelope.the-variants.{Failed, Data}
+use Rattle.envelope.proofs.Opened.{failed-first, Held, opened-data}
+use Rattle.envelope.proofs.Framed.{opened-framed, framed-dataOf}
+use Rattle.asking.specs.Asking.{Asks, ackBit, wordIn, orZero, numberIn}
 
--- The word of a frame is in the first two bytes of its data.
-pub frame-word : (d : List ℕ) → 2 ≤ length d → numberIn (framed Command d) 6 ≡ little (take 2 d)
-unfolding numberIn
-frame-word d h =
-    let s = framed Command d in
-    let e : take 2 (drop 6 s) ≡ take 2 d = rw (framed-behind d Command) (take-append-le 2 d (tail Command) h) in
-    ap orZero (le16-there s 6 (record { inside = omega (arith, frame-length Command d); value = ap little (sym e) }))
+-- What is not so is not told to be.
+never : {A : Type 0} → (A → ⊥) → (false ≡ true) ↔ A
+never h = (λ e. let z : _≡_ {A = ℕ} 0 1 = cc in absurd (omega arith), λ a. absurd (h a))
 
 module _ (s : List ℕ) where
-  pub asks-complete : Asks s → asks s ≡ true
-  unfolding asks
-  asks-complete a =
-      let d = a .«data» in
-      let n = frame-length Command d in
-      let f : isFrame s ≡ true = rw (a .whole) (framed-is d (a .sayable)) in
-      let l : 12 ≤ length s = rw (a .whole) (omega (arith, n, a .worded)) in
-      let w : ackBit (numberIn s 6) ≡ 0 = rw (a .whole, frame-word d (a .worded)) (a .asking) in
-      rw (f, le-leb 12 (length s) l) (eq-eqb (ackBit (numberIn s 6)) 0 w)
+  -- A check that fails.
+  pub failed-asks : (c : Check) → envelope s ≡ Failed c → (false ≡ true) ↔ Asks s
+  failed-asks c e = never (λ a.
+      let f = failed-first s c e in
+      let p = passes-complete s frameChecks (a .checked) in
+      let z : _≡_ {A = ℕ} 0 1 = cc in
+      omega arith)
 
-  pub asks-sound : asks s ≡ true → Asks s
-  unfolding asks
-  asks-sound e =
-      let h = both-true (isFrame s) (leb 12 (length s) && eqb (ackBit (numberIn s 6)) 0) e in
-      let g = both-true (leb 12 (length s)) (eqb (ackBit (numberIn s 6)) 0) (h .1) in
-      let f = frame-sound s (h .0) in
-      let l = leb-true 12 (length s) (g .0) in
-      let n : length s ≡ 10 + length (middle s) = ap length (f .0) ∙ frame-length Command (middle s) in
-      let two : 2 ≤ length (middle s) = omega arith in
-      let w : numberIn s 6 ≡ little (take 2 (middle s)) = ap (λ t. numberIn t 6) (f .0) ∙ frame-word (middle s) two in
-      record {
-        «data» = middle s;
-        whole = f .0;
-        sayable = f .1;
-        worded = two;
-        asking = rw w at (eqb-true (ackBit (numberIn s 6)) 0 (g .1));
-      }
+  -- A frame of the family k whose data end at i.
+  module _ (k : Kind) (i : ℕ) (e : envelope s ≡ Data k i) where
+    opened : Held s k i
+    opened = opened-data s k i e
+
+    data-size : length (dataOf s) ≡ announced s
+    data-size = simp (length-take, length-drop) (omega (arith, opened .inside))
+
+    pub short-asks : i ≤ 7 → (false ≡ true) ↔ Asks s
+    short-asks h = never (λ a. omega (arith, opened .ends, data-size, a .worded))
+
+    pub report-asks : k ≡ Report → (false ≡ true) ↔ Asks s
+    report-asks q = never (λ a.
+        let f = opened .announces in
+        let g = a .headed in
+        let z : _≡_ {A = ℕ} 0 1 = cc in
+        omega arith)
+
+    word-there : 8 ≤ i → numberIn s 6 ≡ wordIn s
+    unfolding numberIn
+    word-there h =
+        let t = take-take 2 (announced s) (drop 6 s) (omega (arith, opened .ends)) in
+        let inside : 8 ≤ length s = omega (arith, opened .ends, opened .inside) in
+        ap orZero (le16-there s 6 (record { inside = inside; value = ap little t }))
+
+    pub command-asks : k ≡ Command → 8 ≤ i → (eqb (ackBit (numberIn s 6)) 0 ≡ true) ↔ Asks s
+    command-asks q h = (
+      λ b. record {
+        checked = passes-sound s frameChecks (opened .passed);
+        headed = rw q at (opened .announces);
+        worded = omega (arith, opened .ends, data-size);
+        asking = rw (word-there h) at (eqb-true (ackBit (numberIn s 6)) 0 b);
+      },
+      λ a. eq-eqb (ackBit (numberIn s 6)) 0 (rw (word-there h) (a .asking)),
+    )
+
+-- The frame around data that begin with a word whose ACK bit is clear.
+pub framed-asks : (d : List ℕ) → length d ≤ 65535 → 2 ≤ length d → ackBit (little (take 2 d)) ≡ 0
+    → Asks (framed Command d)
+framed-asks d h two clear =
+    let o = opened-data (framed Command d) Command (6 + length d) (opened-framed Command d (omega arith)) in
+    let e = framed-dataOf Command d (omega arith) in
+    record {
+      checked = passes-sound (framed Command d) frameChecks (o .passed);
+      headed = o .announces;
+      worded = rw e two;
+      asking = rw e clear;
+    }

@@ -1,5 +1,3 @@
 -- Laws about the definitions, which the proofs of this crate and of the crates above cite.
--- The reader's test of a frame.
-pub mod Framing
--- Frames that ask.
+-- Frames that ask, by the envelope's answer.
 pub mod Asking

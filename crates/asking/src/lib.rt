@@ -1,41 +1,14 @@
 // Frames that ask something of the module: whole frames of the command family with a word whose ACK bit is clear.
-use byte_string::same;
+use envelope::DATA_START;
+use envelope::Envelope;
 use number::MaybeU16;
 use number::le16;
-use put::u16_bytes;
 use wire::ACK_BIT;
-use wire::FRAMING;
 use wire::Kind;
-use writer::MAX_LENGTH;
 ghost use mathlib.Core.Path.{_≡_};
-ghost use Rattle.asking.specs.Asking.{isFrame, numberIn, asks};
-
-// Where the word begins in a frame.
-const WORD: usize = 6;
-
-// Whether the bytes are exactly one frame of the command family, with data that a length can say.
-fn is_frame(bytes: &[u8]) -> bool
-    ensures tested { λ r. ⌜ r ≡ isFrame (now (bytes .entry)) ⌝ }
-{
-    if bytes.len() < FRAMING {
-        return false;
-    }
-    let n = bytes.len() - FRAMING;
-    if MAX_LENGTH < n {
-        return false;
-    }
-    let header = Kind::COMMAND_HEADER;
-    if !same(&bytes[..4], &header) {
-        return false;
-    }
-    let length = u16_bytes(n as u16);
-    if !same(&bytes[4..6], &length) {
-        return false;
-    }
-    let tail = Kind::COMMAND_TAIL;
-    let end = 6 + n;
-    same(&bytes[end..], &tail)
-}
+ghost use mathlib.Core.Logic.{_↔_};
+ghost use mathlib.Core.Bool.{true};
+ghost use Rattle.asking.specs.Asking.{Asks, numberIn};
 
 // The two-byte number at `at`, or 0 where the bytes are too few.
 pub fn number_in(bytes: &[u8], at: usize) -> u16
@@ -47,15 +20,19 @@ pub fn number_in(bytes: &[u8], at: usize) -> u16
     v
 }
 
-// Whether the bytes are a frame that asks something of the module: a word is there, and its ACK bit is clear.
+// Whether the bytes are a frame that asks something of the module: F1 to F4 hold, the family is the command's, a word
+// is there, and its ACK bit is clear.
 pub fn asks(bytes: &[u8]) -> bool
-    ensures tested { λ r. ⌜ r ≡ asks (now (bytes .entry)) ⌝ }
+    ensures tested { λ r. ⌜ (r ≡ true) ↔ Asks (now (bytes .entry)) ⌝ }
 {
-    if !is_frame(bytes) {
+    let Envelope::Data(kind, end) = Envelope::open(bytes) else {
+        return false;
+    };
+    if end < DATA_START + 2 {
         return false;
     }
-    if bytes.len() < FRAMING + 2 {
-        return false;
+    match kind {
+        Kind::Report => false,
+        Kind::Command => number_in(bytes, DATA_START) / ACK_BIT % 2 == 0,
     }
-    number_in(bytes, WORD) / ACK_BIT % 2 == 0
 }

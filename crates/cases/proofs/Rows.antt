@@ -2,23 +2,27 @@
 -- compared with what it says; that the scanner's pieces are a division is a law of the crate `framing`.
 use mathlib.Core.Path.{_≡_, refl, subst, ap}
 use mathlib.Core.List.{List, _++_, map}
+use mathlib.Core.Bool.{Bool, true, false}
+use Prim.Native.Nat.{ℕ}
+use native.Mathlib.Omega.{arith}
 use lib.ListN.{length}
 use Rattle.number.specs.Counter.{bumped}
 use Rattle.byte_string.specs.Equal.{sameBytes}
 use Rattle.wire.specs.Family.{headerOf, framed}
-use Rattle.number.specs.Number.{le16At}
 use Rattle.target_state.specs.State.{stateOf}
 use Rattle.report.specs.Report.{reportOf}
 use Rattle.ack.specs.Ack.{ackOf}
 use Rattle.frame.specs.Frame.{decoded, checkedFrame}
-use Rattle.framing.specs.Framing.{Piece}
-use Rattle.framing.specs.Division.{Division}
-use Rattle.framing.specs.Scanner.{pieces}
-use Rattle.framing.proofs.Scanner.{division-exists}
+use Rattle.framing.specs.Piece.{Piece}
+use Rattle.framing.proofs.Framing.{Divides}
+use Rattle.framing.proofs.Division.{division-over}
+use Rattle.framing.proofs.Scanner.{pieces}
+use Rattle.framing.proofs.Scanned.{division-exists}
 use Rattle.engine.specs.Bytes.{Every}
 use Rattle.engine.specs.Calls.{Did, feeds}
-use Rattle.stream.specs.Scan.{reads, opens, wholes}
-use Rattle.stream.specs.Link.{link}
+use Rattle.stream.proofs.Scan.{reads, opens, wholes}
+use Rattle.stream.proofs.Link.{link}
+use Rattle.stream.proofs.Linked.{opens-are, wholes-are}
 use Rattle.stream.specs.Deliver.{Answer, decodes}
 use Rattle.scan.specs.Scan.{inOrder, settled, unfinishedBy}
 use Rattle.stats.specs.Start.{abandoned, startOf}
@@ -28,10 +32,10 @@ use Rattle.parser.specs.Feed.{fresh, feedOf, feedSliceOf, unfinishedOf}
 use Rattle.feeding.specs.Moved.{bufOf, movedOf, sliceBufOf, sliceMovedOf}
 use Rattle.parser.specs.Claims.{did, left}
 use Rattle.writer.specs.Written.{answerOf, bufferAfter, written}
-use Rattle.command.specs.Command.{commandFrame, unsupported}
+use Rattle.command.specs.Command.{commandFrame, encodable, unsupported}
 use Rattle.request.specs.Request.{dataWith}
-use Rattle.command_reader.specs.Read.{commandOf, guess, guessIn, ifEncodesTo}
-use Rattle.asking.specs.Asking.{asks, isFrame, numberIn}
+use Rattle.command_reader.specs.Read.{is-command}
+use Rattle.command_reader.specs.declared.CommandResult.the-variants as Read
 use Rattle.cases.specs.Row.{Numbers, addedUp, countedBy, Stream, StreamHolds, Run, RunHolds}
 use Rattle.cases.specs.Row.{CommandRow, encodes, parses, CommandHolds, stream, run, command, Holds}
 use Rattle.cases.specs.Streams.{streams}
@@ -63,8 +67,8 @@ streams-computed = refl
 
 stream-holds : (r : Stream) → found r ≡ said r → StreamHolds r
 stream-holds r e = record {
-  divided = subst (λ (ps : List Piece). Division (link 54) (r .bytes) ps) (ap (λ (x : Found). x .pieces) e)
-      (division-exists (link 54) (r .bytes));
+  divided = division-over (opens-are 54) (wholes-are 54) (subst (λ (ps : List Piece). Divides (link 54) (r .bytes) ps)
+      (ap (λ (x : Found). x .pieces) e) (division-exists (link 54) (r .bytes)));
   added = ap (λ (x : Found). x .added) e;
   counted = ap (λ (x : Found). x .counted) e;
 }
@@ -94,23 +98,31 @@ run-holds r e = record { done = ap (λ (x : Ran). x .history) e; counted = ap (�
 runs-hold : Every RunHolds runs
 runs-hold = every-map run-holds runs (agree ran told runs runs-computed)
 
--- A command's row with its answer and its buffer as computed, and as it stands.
-abbrev done : CommandRow → CommandRow
-done (encodes c before answer after) = encodes c before (answerOf (unsupported c) (commandFrame c) (length before))
-    (bufferAfter (unsupported c) (commandFrame c) before)
-done (parses s answer) = parses s (commandOf s)
+-- A command's row with its answer and its buffer as computed, and as it stands. A row of the reader is so if the
+-- command that it gives encodes to its bytes.
+abbrev done : CommandRow → Bool × CommandRow
+done (encodes c before answer after) = (
+  true,
+  encodes c before (answerOf (unsupported c) (commandFrame c) (length before))
+      (bufferAfter (unsupported c) (commandFrame c) before),
+)
+done (parses s (Read.Ok c)) = (encodable c, parses (commandFrame c) (Read.Ok c))
+done (parses s (Read.Err e)) = (false, parses s (Read.Err e))
 
-abbrev stated : CommandRow → CommandRow
-stated r = r
+abbrev stated : CommandRow → Bool × CommandRow
+stated r = (true, r)
 
 commands-computed : map done commands ≡ map stated commands
-unfolding framed dataWith answerOf bufferAfter written commandOf asks isFrame sameBytes numberIn le16At guess guessIn
-    ifEncodesTo
+unfolding framed dataWith answerOf bufferAfter written
 commands-computed = refl
 
 command-holds : (r : CommandRow) → done r ≡ stated r → CommandHolds r
-command-holds (encodes c before answer after) e = (cc, cc)
-command-holds (parses s answer) e = cc
+command-holds (encodes c before answer after) e = let f = ap (λ x. x .1) e in (cc, cc)
+command-holds (parses s (Read.Ok c)) e = let f = ap (λ x. x .1) e in is-command c (ap (λ x. x .0) e, cc)
+command-holds (parses s (Read.Err r)) e =
+    let f = ap (λ x. x .0) e in
+    let z : _≡_ {A = ℕ} 0 1 = cc in
+    absurd (omega arith)
 
 commands-hold : Every CommandHolds commands
 commands-hold = every-map command-holds commands (agree done stated commands commands-computed)

@@ -13,20 +13,20 @@ use mathlib.Core.Path.{_≡_}
 use mathlib.Core.List.{List}
 use Prim.Native.Nat.{ℕ}
 use lib.ListN.{length}
-use Rattle.framing.specs.Framing.{Piece}
+use Rattle.limit.specs.Length.{linkMost}
+use Rattle.framing.specs.Piece.{Piece}
 use Rattle.framing.specs.Division.{Division}
-use Rattle.framing.specs.Tally.{sum, waiting, total}
+use Rattle.framing.specs.Tally.{sum, waiting}
 use Rattle.engine.specs.Calls.{Call, Did, feeds}
-use Rattle.stream.specs.Link.{link}
-use Rattle.stream.specs.Deliver.{Answer, frames, resyncs, dropped, malformed}
-use Rattle.stream.specs.Decoding.{counting}
+use Rattle.stream.specs.Open.{Open, Whole}
+use Rattle.stream.specs.Deliver.{Answer, frames, resyncs, dropped, malformed, adds}
 use Rattle.parser.specs.Feed.{fresh, unfinishedOf}
 use Rattle.parser.specs.Claims.{did, left}
 use Rattle.parser.specs.declared.Parser.{Parser}
 use Rattle.writer.specs.Written.{answerOf, bufferAfter}
 use Rattle.writer.specs.declared.WriteResult.{WriteResult}
 use Rattle.command.specs.Command.{commandFrame, unsupported}
-use Rattle.command_reader.specs.Read.{commandOf}
+use Rattle.command_reader.specs.Read.{ReadTo}
 use Rattle.command.specs.declared.Command.{Command}
 use Rattle.command_reader.specs.declared.CommandResult.{CommandResult}
 
@@ -39,10 +39,10 @@ pub record Numbers : Type 0 where
 
 abbrev pub addedUp : List Piece → Numbers
 addedUp ps = record {
-  frames = total counting frames ps;
-  resyncs = total counting resyncs ps;
-  dropped = total counting dropped ps;
-  malformed = total counting malformed ps;
+  frames = sum (adds frames) ps;
+  resyncs = sum (adds resyncs) ps;
+  dropped = sum (adds dropped) ps;
+  malformed = sum (adds malformed) ps;
   unfinished = sum waiting ps;
 }
 
@@ -52,7 +52,7 @@ countedBy p = record {
   resyncs = p .stats .resyncs;
   dropped = p .stats .dropped;
   malformed = p .stats .malformed;
-  unfinished = unfinishedOf 54 p;
+  unfinished = unfinishedOf linkMost p;
 }
 
 pub record Stream : Type 0 where
@@ -62,7 +62,7 @@ pub record Stream : Type 0 where
 
 pub record StreamHolds (r : Stream) : Type 0 where
   -- the bytes divide into the pieces, and no others: a division is the only one
-  pub divided : Division (link 54) (r .bytes) (r .pieces)
+  pub divided : Division (Open linkMost) (Whole linkMost) (r .bytes) (r .pieces)
   -- the pieces add up to the numbers
   pub added : addedUp (r .pieces) ≡ r .numbers
   -- a fresh parser that is fed the bytes one by one tells the numbers
@@ -88,7 +88,7 @@ pub data CommandRow : Type 0 where
 abbrev pub CommandHolds : CommandRow → Type 0
 CommandHolds (encodes c before answer after) = (answerOf (unsupported c) (commandFrame c) (length before) ≡ answer)
     × (bufferAfter (unsupported c) (commandFrame c) before ≡ after)
-CommandHolds (parses s answer) = commandOf s ≡ answer
+CommandHolds (parses s answer) = ReadTo s answer
 
 pub data Row : Type 0 where
   stream : (r : Stream) → Row

@@ -7,7 +7,7 @@
 use mathlib.Core.List.{List, [], _∷_, _++_}
 use Prim.Native.Nat.{ℕ}
 use lib.ListN.{take}
-use Rattle.framing.specs.Framing.{Piece, stray, broken, whole, unfinished}
+use Rattle.framing.specs.Piece.{Piece, stray, broken, whole, unfinished}
 use Rattle.cases.specs.Row.{Numbers, Stream}
 
 abbrev pub b : List ℕ

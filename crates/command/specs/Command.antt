@@ -2,6 +2,7 @@
 --   wordOf c         the command's word
 --   valueOf c        what stands behind it: nothing, a two-byte number, or the values of three records
 --   commandFrame c   the command's frame
+--   sizeWith v       its size, by the kind of its value v
 --   encodable c      whether the module takes the command's values: gates 0 to 8, sensitivities 0 to 100
 --   unsupported c    refusal 2, unless it does
 use mathlib.Core.List.{List}
@@ -53,6 +54,12 @@ valueOf ReadMac = Of.Number 1
 
 abbrev pub commandFrame : Command → List ℕ
 commandFrame c = frameWith (wordOf c) (valueOf c)
+
+-- "12, 14 or 30 bytes": "no value", "two-byte value", "three records"
+abbrev pub sizeWith : Value → ℕ
+sizeWith Of.None = 12
+sizeWith (Of.Number v) = 14
+sizeWith (Of.Records a b c) = 30
 
 -- Seconds are what two bytes hold; the code's type says so.
 abbrev pub encodable : Command → Bool

@@ -15,7 +15,7 @@ ghost use mathlib.Core.Path.{_≡_};
 ghost use mathlib.Core.Bool.{false};
 ghost use lib.ListN.{length};
 ghost use Rattle.writer.specs.Written.{answerOf, bufferAfter, WriteCauses};
-ghost use Rattle.command.specs.Command.{wordOf, valueOf, commandFrame, encodable, unsupported};
+ghost use Rattle.command.specs.Command.{wordOf, valueOf, commandFrame, sizeWith, encodable, unsupported};
 
 // A command to the module. Every one but `EnableConfig` is sent between `EnableConfig` and `EndConfig`.
 pub enum Command {
@@ -112,9 +112,11 @@ impl Command {
         }
     }
 
-    // Size of the encoded frame, header to tail.
+    // Size of the encoded frame, header to tail: 12 bytes without a value, 14 with a two-byte value, 30 with three
+    // records.
     pub fn encoded_len(self) -> usize
         ensures counted { λ r. ⌜ r ≡ length (commandFrame self) ⌝ }
+        ensures sized { λ r. ⌜ r ≡ sizeWith (valueOf self) ⌝ }
     {
         FRAMING + 2 + self.value().len()
     }

@@ -1,97 +1,129 @@
--- Each of the reader's answers has its cause, and what is read or written comes back.
+-- What the reader answers, by the only command that may encode to the bytes; that the rules leave no choice; and that
+-- each number has its cause.
 use mathlib.Core.Path.{_≡_, refl, sym, ap, _∙_}
 use mathlib.Core.Logic.{_↔_, inl, inr}
 use mathlib.Core.List.{List}
-use mathlib.Core.Bool.{true, false}
+use mathlib.Core.Bool.{Bool, true, false}
+use mathlib.Core.Option.{some}
 use Prim.Native.Nat.{ℕ}
 use native.Mathlib.Omega.{arith}
 use lib.ListN.{length, take}
-use Rattle.refusal.specs.declared.Error.the-variants.{InvalidFormat, UnknownCommand}
-use Rattle.writer.specs.Written.{written}
-use Rattle.writer.specs.declared.WriteResult.{WriteResult}
-use Rattle.writer.proofs.Writers.{Wrote, wrote-whole}
-use Rattle.command.specs.Command.{commandFrame, unsupported}
-use Rattle.command_reader.specs.Read.{Reads, commandOf, ReadCauses, ReadBack, EncodedBack, WrittenAgain}
-use Rattle.asking.specs.Asking.{Asks, asks}
+use borrow.Author.Tests.{leb-true}
+use Rattle.number.specs.Number.{little}
+use Rattle.refusal.specs.Refusal.{accepted}
+use Rattle.refusal.specs.declared.Error.the-variants.{InvalidFormat}
+use Rattle.request.specs.Request.{dataWith}
+use Rattle.request.proofs.Makers.{data-framable, data-worded}
+use Rattle.asking.specs.Asking.{Asks, ackBit}
+use Rattle.asking.proofs.Asking.{framed-asks}
+use Rattle.command.specs.Command.{wordOf, valueOf, commandFrame}
 use Rattle.command.specs.declared.Command.{Command}
+use Rattle.command.specs.declared.Command.the-variants.{EnableConfig, EndConfig, SetMaxGates, ReadParameters}
+use Rattle.command.specs.declared.Command.the-variants.{EngineeringMode, SetSensitivity, ReadFirmware, SetBaud}
+use Rattle.command.specs.declared.Command.the-variants.{FactoryReset, Restart, Bluetooth, ReadMac}
+use Rattle.command_reader.specs.Candidate.{candidateIn, encodesTo, ifEncodesTo}
+use Rattle.command_reader.specs.Read.{EncodesTo, ReadTo, is-command, is-unknown, is-invalid, OneAnswer}
+use Rattle.command_reader.specs.Read.{ReadCauses}
 use Rattle.command_reader.specs.declared.CommandResult.{CommandResult}
 use Rattle.command_reader.specs.declared.CommandResult.the-variants.{Ok, Err}
-use Rattle.asking.proofs.Asking.{asks-sound, asks-complete}
-use Rattle.command_reader.proofs.Reading.{laid}
-use Rattle.command_reader.proofs.RoundTrip.{frame-asks, read-complete, read-sound, read-unique}
-use Rattle.command_reader.proofs.RoundTrip.{Way, invalid, unknown, found, way}
+use Rattle.command_reader.proofs.Candidates.{candidate-written}
+use Rattle.command_reader.proofs.Reading.{encodes-sound, encodes-complete}
+
+-- No command's word has the ACK bit.
+word-asking : (c : Command) → ackBit (little (take 2 (dataWith (wordOf c) (valueOf c)))) ≡ 0
+unfolding dataWith
+word-asking EnableConfig = refl
+word-asking EndConfig = refl
+word-asking (SetMaxGates m s n) = refl
+word-asking ReadParameters = refl
+word-asking (EngineeringMode true) = refl
+word-asking (EngineeringMode false) = refl
+word-asking (SetSensitivity g m s) = refl
+word-asking ReadFirmware = refl
+word-asking (SetBaud b) = refl
+word-asking FactoryReset = refl
+word-asking Restart = refl
+word-asking (Bluetooth on) = refl
+word-asking ReadMac = refl
+
+-- So every command's frame asks.
+frame-asks : (c : Command) → Asks (commandFrame c)
+frame-asks c =
+    let d = dataWith (wordOf c) (valueOf c) in
+    let short = leb-true (length d) 65535 (data-framable (wordOf c) (valueOf c)) in
+    framed-asks d short (data-worded (wordOf c) (valueOf c)) (word-asking c)
 
 module _ (s : List ℕ) where
-  reads-asks : (c : Command) → Reads s c → Asks s
-  reads-asks c h = rw (h .1) (frame-asks c)
+  encodes-asks : (c : Command) → EncodesTo c s → Asks s
+  encodes-asks c h = rw (h .1) (frame-asks c)
 
-  asks-not : asks s ≡ false → Asks s → ⊥
-  asks-not e a = let t = asks-complete s a in let z : _≡_ {A = ℕ} 0 1 = cc in omega arith
+  -- Two commands that encode to the same bytes are one: the candidate.
+  encodes-candidate : (c : Command) → EncodesTo c s → candidateIn s ≡ c
+  encodes-candidate c h = rw (h .1) (candidate-written c (h .0))
 
-  accepted-by : (r : CommandResult) → r ≡ commandOf s → (c : Command) → (r ≡ Ok c) ↔ Reads s c
-  accepted-by r e c = (λ q. read-sound s c (sym e ∙ q), λ h. e ∙ read-complete s c h)
+  encodes-unique : (b c : Command) → EncodesTo b s → EncodesTo c s → b ≡ c
+  encodes-unique b c h k = sym (encodes-candidate b h) ∙ encodes-candidate c k
 
-  unread : (r : CommandResult) → r ≡ commandOf s → ((c : Command) → r ≡ Ok c → ⊥) → (c : Command) → Reads s c → ⊥
-  unread r e none c h = none c (e ∙ read-complete s c h)
+  -- The rules leave no choice.
+  one : {p q : CommandResult} → ReadTo s p → ReadTo s q → p ≡ q
+  one (is-command b h) (is-command c k) = ap Ok (encodes-unique b c h k)
+  one (is-command b h) (is-unknown a n) = absurd (n b h)
+  one (is-command b h) (is-invalid n) = absurd (n (encodes-asks b h))
+  one (is-unknown a n) (is-command c k) = absurd (n c k)
+  one (is-unknown a n) (is-unknown b m) = refl
+  one (is-unknown a n) (is-invalid m) = absurd (m a)
+  one (is-invalid n) (is-command c k) = absurd (n (encodes-asks c k))
+  one (is-invalid n) (is-unknown a m) = absurd (n a)
+  one (is-invalid n) (is-invalid m) = refl
 
-  causes-invalid : asks s ≡ false → Err InvalidFormat ≡ commandOf s → ReadCauses s (Err InvalidFormat)
-  causes-invalid a e = record {
-    accepted = accepted-by (Err InvalidFormat) e;
-    unique = read-unique s;
-    invalid = (λ z. asks-not a, λ h. refl);
-    unknown = (λ z. absurd (omega arith), λ h. absurd (asks-not a (h .0)));
-    total = inr (inl refl);
-  }
+  pub one-answer : OneAnswer s
+  one-answer p q h k = one h k
 
-  causes-unknown : asks s ≡ true → Err UnknownCommand ≡ commandOf s → ReadCauses s (Err UnknownCommand)
-  causes-unknown a e = record {
-    accepted = accepted-by (Err UnknownCommand) e;
-    unique = read-unique s;
-    invalid = (λ z. absurd (omega arith), λ h. absurd (h (asks-sound s a)));
-    unknown = (
-      λ z. (asks-sound s a, unread (Err UnknownCommand) e (λ c q. let z : _≡_ {A = ℕ} 0 1 = cc in omega arith)),
-      λ h. refl,
+  -- What does not ask, and what does: the candidate, or nothing.
+  pub read-unasked : (b : Bool) → ((b ≡ true) ↔ Asks s) → b ≡ false → ReadTo s (Err InvalidFormat)
+  read-unasked b h e = is-invalid (λ a. let t = h .1 a in let z : _≡_ {A = ℕ} 0 1 = cc in omega arith)
+
+  none-encodes : encodesTo s (candidateIn s) ≡ false → (c : Command) → EncodesTo c s → ⊥
+  none-encodes e c h =
+      let t = encodes-complete s c h in
+      let f = rw (encodes-candidate c h) at e in
+      let z : _≡_ {A = ℕ} 0 1 = cc in
+      omega arith
+
+  pub read-asked : Asks s → ReadTo s (ifEncodesTo s (candidateIn s))
+  unfolding ifEncodesTo
+  read-asked a = go (encodesTo s (candidateIn s)) refl
+    where
+      go : (b : Bool) → encodesTo s (candidateIn s) ≡ b → ReadTo s (ifEncodesTo s (candidateIn s))
+      go true e = rw e (is-command (candidateIn s) (encodes-sound s (candidateIn s) e))
+      go false e = rw e (is-unknown a (none-encodes e))
+
+  -- Each number is given exactly in its cause.
+  pub read-causes : {r : CommandResult} → ReadTo s r → ReadCauses s r
+  read-causes (is-command c h) = record {
+    read = λ d. (
+      λ q. let e = ap (λ x. x .value) q in let f : c ≡ d = cc in rw f at h,
+      λ k. ap (λ x. accepted (some x)) (encodes-unique c d h k),
     );
-    total = inr (inr refl);
-  }
-
-  causes-found : (c : Command) → Reads s c → Ok c ≡ commandOf s → ReadCauses s (Ok c)
-  causes-found c h e = record {
-    accepted = accepted-by (Ok c) e;
-    unique = read-unique s;
-    invalid = (λ z. absurd (omega arith), λ k. absurd (k (reads-asks c h)));
+    unique = encodes-unique;
+    invalid = (λ z. absurd (omega arith), λ n. absurd (n (encodes-asks c h)));
     unknown = (λ z. absurd (omega arith), λ k. absurd (k .1 c h));
     total = inl refl;
+    zeros = λ n. absurd (n refl);
   }
-
-  -- The reader gives each number exactly in its cause.
-  pub read-causes : ReadCauses s (commandOf s)
-  read-causes = go (way s)
-    where
-      go : Way s → ReadCauses s (commandOf s)
-      go (invalid a e) = rw e (causes-invalid a (sym e))
-      go (unknown a e) = rw e (causes-unknown a (sym e))
-      go (found c h e) = rw e (causes-found c h (sym e))
-
-  -- Reading and writing again gives equal bytes.
-  pub written-again : WrittenAgain s (commandOf s)
-  written-again c e out l =
-      let h = read-sound s c e in
-      let n = ap length (h .1) in
-      let w = wrote-whole (commandFrame c) out (length s) (written out s) n l (ap (written out) (h .1)) in
-      rw (h .0) (sym (w .0), sym (w .1))
-
--- Reading what was written gives the command.
-pub read-back : (c : Command) (out left : List ℕ) (r : WriteResult)
-    → Wrote (unsupported c) (commandFrame c) out r left → ReadBack c r left
-read-back c out left r h n e =
-    let l = laid c out left r h n e in
-    read-complete (take n left) c (l .good, l .front)
-
-pub encoded-back : EncodedBack
-encoded-back c out = read-back c out _ _ (refl, refl)
-
--- What the reader has to show, from its answer.
-pub answered : (s : List ℕ) (r : CommandResult) → r ≡ commandOf s
-    → (r ≡ commandOf s) × (ReadCauses s r × (EncodedBack × WrittenAgain s r))
-answered s r e = (e, (rw e (read-causes s), (encoded-back, rw e (written-again s))))
+  read-causes (is-unknown a n) = record {
+    read = λ d. (λ q. let z = ap (λ x. x .number) q in absurd (omega arith), λ k. absurd (n d k));
+    unique = encodes-unique;
+    invalid = (λ z. absurd (omega arith), λ m. absurd (m a));
+    unknown = (λ z. (a, n), λ k. refl);
+    total = inr (inr refl);
+    zeros = λ n. (refl, refl);
+  }
+  read-causes (is-invalid n) = record {
+    read = λ d. (λ q. let z = ap (λ x. x .number) q in absurd (omega arith), λ k. absurd (n (encodes-asks d k)));
+    unique = encodes-unique;
+    invalid = (λ z. n, λ m. refl);
+    unknown = (λ z. absurd (omega arith), λ k. absurd (n (k .0)));
+    total = inr (inl refl);
+    zeros = λ n. (refl, refl);
+  }

@@ -1,9 +1,9 @@
 -- Laws about the definitions, which the proofs of this crate cite.
--- The guess for a command's frame is the command.
-pub mod Guessing
--- What the reader answers.
+-- The candidate for a command's frame is the command.
+pub mod Candidates
+-- Whether a command encodes to the bytes.
 pub mod Reading
--- The reader is sound and complete, and no two commands have one frame.
-pub mod RoundTrip
--- The causes of the reader's answers, and both round trips.
+-- What the reader answers, that there is no choice, and the causes.
 pub mod Answers
+-- The encoder and the reader agree.
+pub mod RoundTrip

@@ -1,27 +1,37 @@
--- What the reader answers, by the frame that the guessed command encodes to.
-use mathlib.Core.Path.{_≡_, refl}
+-- A command beside the bytes: whether it encodes to them, and what the encoder leaves of it.
+use mathlib.Core.Path.{_≡_, refl, sym}
 use mathlib.Core.List.{List}
 use mathlib.Core.Bool.{Bool, true, false}
 use Prim.Native.Nat.{ℕ, _≤_}
 use native.Mathlib.Omega.{arith}
 use lib.ListN.{length, take}
 use Rattle.byte_string.specs.Equal.{sameBytes}
+use Rattle.byte_string.proofs.Equality.{both-true, same-sound, same-complete}
 use Rattle.refusal.specs.declared.Error.{Error}
-use Rattle.refusal.specs.declared.Error.the-variants.{Unsupported, UnknownCommand, InvalidFormat}
+use Rattle.refusal.specs.declared.Error.the-variants.{Unsupported, UnknownCommand}
 use Rattle.writer.specs.Written.{written}
 use Rattle.writer.specs.declared.WriteResult.{WriteResult}
 use Rattle.writer.specs.declared.WriteResult.the-variants as Write
 use Rattle.writer.proofs.Chain.{written-front, written-length}
 use Rattle.writer.proofs.Writers.{Wrote, wrote-whole, wrote-all, none-good}
 use Rattle.command.specs.Command.{commandFrame, encodable, unsupported}
-use Rattle.asking.specs.Asking.{asks}
-use Rattle.command_reader.specs.Read.{guessIn, ifEncodesTo, commandOf}
+use Rattle.command_reader.specs.Candidate.{encodesTo, ifEncodesTo}
+use Rattle.command_reader.specs.Read.{EncodesTo}
 use Rattle.command.specs.declared.Command.{Command}
 use Rattle.command_reader.specs.declared.CommandResult.the-variants.{Ok, Err}
 use Rattle.command.proofs.Frames.{frame-short}
 
--- A command that does not encode to the bytes, and one that does.
 module _ (s : List ℕ) (c : Command) where
+  -- The test is the meaning.
+  pub encodes-sound : encodesTo s c ≡ true → EncodesTo c s
+  encodes-sound e =
+      let h = both-true (encodable c) (sameBytes (commandFrame c) s) e in
+      (h .0, sym (same-sound (commandFrame c) s (h .1)))
+
+  pub encodes-complete : EncodesTo c s → encodesTo s c ≡ true
+  encodes-complete h = rw (h .0) (same-complete (commandFrame c) s (sym (h .1)))
+
+  -- What is answered where it does not, and where it does.
   pub unencodable : encodable c ≡ false → ifEncodesTo s c ≡ Err UnknownCommand
   unfolding ifEncodesTo
   unencodable e = rw e
@@ -63,13 +73,3 @@ module _ (c : Command) (out left : List ℕ) (r : WriteResult)
           let z : _≡_ {A = ℕ} 0 1 = cc in
           absurd (omega arith)
       go false g = g
-
--- The reader's two ways.
-module _ (s : List ℕ) where
-  pub read-invalid : asks s ≡ false → commandOf s ≡ Err InvalidFormat
-  unfolding commandOf
-  read-invalid e = rw e
-
-  pub read-asked : asks s ≡ true → commandOf s ≡ ifEncodesTo s (guessIn s)
-  unfolding commandOf
-  read-asked e = rw e

@@ -1,94 +1,50 @@
--- The reader gives the command that encodes to the bytes: it is sound and complete, and there is no other.
-use mathlib.Core.Path.{_≡_, refl, sym, ap, _∙_}
-use mathlib.Core.List.{List}
-use mathlib.Core.Bool.{Bool, true, false}
+-- The encoder and the reader of commands agree.
+use mathlib.Core.Path.{refl, sym}
+use mathlib.Core.List.{List, _++_}
 use Prim.Native.Nat.{ℕ}
 use native.Mathlib.Omega.{arith}
-use lib.ListN.{length, take}
-use borrow.Author.Tests.{leb-true}
-use Rattle.byte_string.specs.Equal.{sameBytes}
-use Rattle.number.specs.Number.{little}
-use Rattle.refusal.specs.declared.Error.the-variants.{InvalidFormat, UnknownCommand}
-use Rattle.byte_string.proofs.Equality.{same-sound, same-complete}
-use Rattle.command.specs.Command.{wordOf, valueOf, commandFrame, encodable}
-use Rattle.request.specs.Request.{dataWith}
-use Rattle.command_reader.specs.Read.{Reads, guessIn, ifEncodesTo, commandOf}
-use Rattle.asking.specs.Asking.{Asks, ackBit, asks}
+use Rattle.number.specs.Bytes.{Bytes}
+use Rattle.number.specs.Number.{leBytes}
+use Rattle.refusal.specs.declared.Error.the-variants.{Unsupported}
+use Rattle.put.proofs.Bytes.{bytes-append, bytes-leBytes, framed-bytes}
+use Rattle.wire.specs.declared.Kind.the-variants as Family
+use Rattle.writer.specs.RoundTrip.{RoundTrip}
+use Rattle.writer.proofs.RoundTrip.{round-trip}
+use Rattle.request.specs.Request.{recordBytes, valueBytes, dataWith}
+use Rattle.request.specs.declared.Value.{Value}
+use Rattle.request.specs.declared.Value.the-variants as Of
+use Rattle.command.specs.Command.{wordOf, valueOf, encodable}
 use Rattle.command.specs.declared.Command.{Command}
-use Rattle.command.specs.declared.Command.the-variants.{EnableConfig, EndConfig, SetMaxGates, ReadParameters}
-use Rattle.command.specs.declared.Command.the-variants.{EngineeringMode, SetSensitivity, ReadFirmware, SetBaud}
-use Rattle.command.specs.declared.Command.the-variants.{FactoryReset, Restart, Bluetooth, ReadMac}
-use Rattle.command_reader.specs.declared.CommandResult.the-variants.{Ok, Err}
-use Rattle.asking.proofs.Asking.{asks-complete}
-use Rattle.command_reader.proofs.Guessing.{guess-written}
-use Rattle.request.proofs.Makers.{data-framable, data-worded}
-use Rattle.command_reader.proofs.Reading.{unencodable, unlike-frame, like-frame, read-invalid, read-asked}
+use Rattle.command_reader.specs.Read.{EncodesTo, ReadTo, is-command, commands}
+use Rattle.command_reader.specs.declared.CommandResult.the-variants.{Ok}
+use Rattle.command_reader.proofs.Answers.{read-causes}
 
--- No command's word has the ACK bit.
-word-asking : (c : Command) → ackBit (little (take 2 (dataWith (wordOf c) (valueOf c)))) ≡ 0
+-- A command's frame is a byte string.
+record-bytes : (k v : ℕ) → Bytes (recordBytes k v)
+record-bytes k v = bytes-append (leBytes 2 k) (leBytes 4 v) (bytes-leBytes 2 k) (bytes-leBytes 4 v)
+
+value-bytes : (v : Value) → Bytes (valueBytes v)
+value-bytes Of.None = tt
+value-bytes (Of.Number v) = bytes-leBytes 2 v
+value-bytes (Of.Records a b c) =
+    bytes-append (recordBytes 0 a) (recordBytes 1 b ++ recordBytes 2 c) (record-bytes 0 a)
+    (bytes-append (recordBytes 1 b) (recordBytes 2 c) (record-bytes 1 b) (record-bytes 2 c))
+
+data-bytes : (w : ℕ) (v : Value) → Bytes (dataWith w v)
 unfolding dataWith
-word-asking EnableConfig = refl
-word-asking EndConfig = refl
-word-asking (SetMaxGates m s n) = refl
-word-asking ReadParameters = refl
-word-asking (EngineeringMode true) = refl
-word-asking (EngineeringMode false) = refl
-word-asking (SetSensitivity g m s) = refl
-word-asking ReadFirmware = refl
-word-asking (SetBaud b) = refl
-word-asking FactoryReset = refl
-word-asking Restart = refl
-word-asking (Bluetooth on) = refl
-word-asking ReadMac = refl
+data-bytes w v = bytes-append (leBytes 2 w) (valueBytes v) (bytes-leBytes 2 w) (value-bytes v)
 
--- So every command's frame asks.
-pub frame-asks : (c : Command) → Asks (commandFrame c)
-frame-asks c = record {
-  «data» = dataWith (wordOf c) (valueOf c);
-  whole = refl;
-  sayable = leb-true (length (dataWith (wordOf c) (valueOf c))) 65535 (data-framable (wordOf c) (valueOf c));
-  worded = data-worded (wordOf c) (valueOf c);
-  asking = word-asking c;
-}
+-- What is read as a command is what it encodes to.
+read-encodes : (s : List ℕ) (c : Command) → ReadTo s (Ok c) → EncodesTo c s
+read-encodes s c h = read-causes s h .read c .0 refl
 
--- A frame to which a command encodes is read as this command.
-pub read-complete : (s : List ℕ) (c : Command) → Reads s c → commandOf s ≡ Ok c
-read-complete s c h =
-    rw (h .1)
-    (read-asked (commandFrame c) (asks-complete (commandFrame c) (frame-asks c))
-    ∙ ap (ifEncodesTo (commandFrame c)) (guess-written c (h .0))
-    ∙ like-frame (commandFrame c) c (h .0) (same-complete (commandFrame c) (commandFrame c) refl))
-
--- What the reader does with the bytes, with its reason.
-pub data Way (s : List ℕ) : Type 0 where
-  invalid : asks s ≡ false → commandOf s ≡ Err InvalidFormat → Way s
-  unknown : asks s ≡ true → commandOf s ≡ Err UnknownCommand → Way s
-  found : (c : Command) → Reads s c → commandOf s ≡ Ok c → Way s
-
-module _ (s : List ℕ) where
-  way-asked : asks s ≡ true → (c : Command) → commandOf s ≡ ifEncodesTo s c → (g b : Bool) → encodable c ≡ g
-      → sameBytes (commandFrame c) s ≡ b → Way s
-  way-asked e c f false b p q = unknown e (f ∙ unencodable s c p)
-  way-asked e c f true false p q = unknown e (f ∙ unlike-frame s c p q)
-  way-asked e c f true true p q = found c (p, sym (same-sound (commandFrame c) s q)) (f ∙ like-frame s c p q)
-
-  way-by : (b : Bool) → asks s ≡ b → Way s
-  way-by false e = invalid e (read-invalid s e)
-  way-by true e =
-      let c = guessIn s in
-      way-asked e c (read-asked s e) (encodable c) (sameBytes (commandFrame c) s) refl refl
-
-  pub way : Way s
-  way = way-by (asks s) refl
-
-  pub read-sound : (c : Command) → commandOf s ≡ Ok c → Reads s c
-  read-sound c e = go way
-    where
-      go : Way s → Reads s c
-      go (invalid p q) = let z : _≡_ {A = ℕ} 0 1 = cc in absurd (omega arith)
-      go (unknown p q) = let z : _≡_ {A = ℕ} 0 1 = cc in absurd (omega arith)
-      go (found b h q) = let z : b ≡ c = cc in rw z at h
-
-  -- Two commands that encode to the same bytes are one.
-  pub read-unique : (b c : Command) → Reads s b → Reads s c → b ≡ c
-  read-unique b c h k = let p = read-complete s b h in let q = read-complete s c k in cc
+pub commands-agree : (c : Command) → RoundTrip commands c
+commands-agree c =
+    round-trip commands c Unsupported (encodable c) (record {
+      refused = refl;
+      number = refl;
+      bytes = λ g. framed-bytes Family.Command (dataWith (wordOf c) (valueOf c)) (data-bytes (wordOf c) (valueOf c));
+      written = λ g. record { within = tt; kept = tt; read = is-command c (g, refl) };
+      found = λ s b w h. read-encodes s c h .0;
+      again = λ s b w k h. sym (read-encodes s c h .1);
+    }) (λ z. omega arith) (λ z. omega arith)

@@ -1,1 +1,2 @@
+pub mod Candidate
 pub mod Read

@@ -12,8 +12,10 @@ use setting::MaybeBaud;
 use wire::word;
 use writer::WriteResult;
 ghost use mathlib.Core.Path.{_≡_};
-ghost use Rattle.command_reader.specs.Read.{gateFor, baudFor, guess, guessIn, ifEncodesTo, commandOf};
-ghost use Rattle.command_reader.specs.Read.{ReadCauses, EncodedBack, WrittenAgain};
+ghost use Rattle.writer.specs.RoundTrip.{RoundTrip};
+ghost use Rattle.command.specs.declared.Command.{Command};
+ghost use Rattle.command_reader.specs.Candidate.{gateFor, baudFor, candidate, candidateIn, ifEncodesTo};
+ghost use Rattle.command_reader.specs.Read.{ReadTo, OneAnswer, ReadCauses, commands};
 
 // Longest frame of a command.
 const MAX_COMMAND: usize = 30;
@@ -58,8 +60,8 @@ fn baud_for(index: u16) -> Baud
 
 // The only command that may have this word, and this number for its value or these values in its records. For a word
 // that no command has, any will do: it does not encode to the bytes.
-fn guess(word: u16, number: u16, first: u16, second: u16, third: u16) -> Command
-    ensures guessed { λ r. ⌜ r ≡ guess word number first second third ⌝ }
+fn candidate(word: u16, number: u16, first: u16, second: u16, third: u16) -> Command
+    ensures chosen { λ r. ⌜ r ≡ candidate word number first second third ⌝ }
 {
     match word {
         word::ENABLE_CONFIG => Command::EnableConfig,
@@ -88,14 +90,14 @@ fn guess(word: u16, number: u16, first: u16, second: u16, third: u16) -> Command
 
 // The only command that may encode to the bytes, if one does. Only the word and the lowest bytes of each value are
 // looked at.
-fn guess_in(bytes: &[u8]) -> Command
-    ensures guessed { λ r. ⌜ r ≡ guessIn (now (bytes .entry)) ⌝ }
+fn candidate_in(bytes: &[u8]) -> Command
+    ensures chosen { λ r. ⌜ r ≡ candidateIn (now (bytes .entry)) ⌝ }
 {
     let number = number_in(bytes, NUMBER);
     let first = number_in(bytes, FIRST);
     let second = number_in(bytes, SECOND);
     let third = number_in(bytes, THIRD);
-    guess(number_in(bytes, WORD), number, first, second, third)
+    candidate(number_in(bytes, WORD), number, first, second, third)
 }
 
 // The command, if it encodes to the bytes.
@@ -117,13 +119,13 @@ fn if_encodes_to(command: Command, bytes: &[u8]) -> CommandResult
 // command family with a word whose ACK bit is clear, with 5 such a frame to whose bytes no command encodes. What
 // `Command::encode` writes is read as the command, and what is read is written again as the same bytes.
 pub fn read_command(bytes: &[u8]) -> CommandResult
-    ensures read { λ r. ⌜ r ≡ commandOf (now (bytes .entry)) ⌝ }
+    ensures read { λ r. ⌜ ReadTo (now (bytes .entry)) r ⌝ }
+    ensures alone { λ _. ⌜ OneAnswer (now (bytes .entry)) ⌝ }
     ensures causes { λ r. ⌜ ReadCauses (now (bytes .entry)) r ⌝ }
-    ensures back { λ _. ⌜ EncodedBack ⌝ }
-    ensures again { λ r. ⌜ WrittenAgain (now (bytes .entry)) r ⌝ }
+    ensures round { λ _. ⌜ ((c : Command) → RoundTrip commands c) ⌝ }
 {
     if !asks(bytes) {
         return CommandResult::Err(Error::InvalidFormat);
     }
-    if_encodes_to(guess_in(bytes), bytes)
+    if_encodes_to(candidate_in(bytes), bytes)
 }

@@ -6,3 +6,5 @@ pub mod Appended
 pub mod Rest
 -- What bytes leave of a parser that other bytes left.
 pub mod Reading
+-- The numbers of a parser that was fed.
+pub mod Line

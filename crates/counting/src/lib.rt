@@ -1,18 +1,27 @@
 // Counting what a stream holds: bytes of any number fed to a parser, and its numbers printed on one line.
 use parser::Parser;
 ghost use mathlib.Core.Path.{_≡_};
+ghost use Prim.Native.Nat.{_<_};
+ghost use Rattle.limit.specs.Length.{linkMost};
 ghost use Rattle.engine.specs.Bytes.{Bytes};
 ghost use Rattle.engine.specs.Calls.{feeds};
 ghost use Rattle.parser.specs.Claims.{left};
 ghost use Rattle.parser.specs.Feed.{fresh};
+ghost use Rattle.parser.specs.Engine.{pendingBy};
 ghost use Rattle.counting.specs.Counts.{countsOf};
-ghost use Rattle.counting.specs.Reached.{Reached, Turned};
+ghost use Rattle.counting.specs.Counted.{FedAll, Line};
+ghost use Rattle.counting.specs.Reached.{Reached, turnOf, Turned};
+ghost use lib.ListN.{length, take};
+ghost use Rattle.io.specs.Counts.{clamped};
 
 // Feeds all of `bytes`: a slice feed stops behind each whole frame, and is called again with the rest. The parser is
-// left as by feeding the bytes one by one, so that demand 3 (specs/Claims.antt of `parser`) says what it has counted.
+// left as by feeding the bytes one by one, and has counted what demand 3 says, whatever parser it was; of no bytes it
+// is left as it was.
 pub fn feed_all(parser: Parser, bytes: &[u8]) -> Parser
     ensures fed { λ r. ⌜ r ≡ left parser (feeds (now (bytes .entry))) ⌝ }
     ensures bytes { λ _. ⌜ Bytes (now (bytes .entry)) ⌝ }
+    ensures counted { λ r. ⌜ (0 < length (now (bytes .entry))
+        → FedAll (pendingBy linkMost parser) parser (now (bytes .entry)) r) ⌝ }
 {
     let mut at = parser;
     let mut i = 0;
@@ -32,25 +41,34 @@ struct Turn {
     more: bool,
 }
 
-// Reads once, and feeds what came. A read that fails counts as the end of the input. No contract can name the bytes
-// that are read: this one says that the parser is left as some bytes leave it, and that more may come if there were
-// any.
-fn read_some(fd: i32, parser: Parser) -> Turn
-    ensures turned { λ r. ⌜ Turned parser (r .parser) (r .more) ⌝ }
+// Feeds what a read put at the start of `buf`, by what it answered: all of it, and nothing else. More may come if there
+// was any. A read that fails counts as the end of the input.
+fn feed_read(parser: Parser, buf: &[u8], got: isize) -> Turn
+    ensures turned { λ r. ⌜ r ≡ turnOf parser (now (buf .entry)) got ⌝ }
+    ensures bytes { λ _. ⌜ Bytes (take (clamped got (length (now (buf .entry)))) (now (buf .entry))) ⌝ }
 {
-    let mut buf = io::buffer();
-    let got = libc::read(fd, &mut buf);
-    let n = io::count(got, &buf);
+    let n = io::count(got, buf);
     Turn {
         parser: feed_all(parser, &buf[..n]),
         more: n > 0,
     }
 }
 
+// Reads once, and feeds what came. No contract can name the bytes that a read gives, nor say that it was made: that the
+// bytes of this contract are those of the input is what these three lines are trusted for.
+fn read_some(fd: i32, parser: Parser) -> Turn
+    ensures turned { λ r. ⌜ Turned parser r ⌝ }
+{
+    let mut buf = io::buffer();
+    let got = libc::read(fd, &mut buf);
+    feed_read(parser, &buf, got)
+}
+
 // Feeds all that can be read from `fd` to a fresh parser. A proved loop has to end, and nothing says that an input
 // does. So the loop counts its turns down, from a number that no run uses up.
 pub fn read_all(fd: i32) -> Parser
     ensures reached { λ r. ⌜ Reached fresh r ⌝ }
+    ensures line { λ r. ⌜ Line (countsOf r) ⌝ }
 {
     let mut at = Parser::new();
     let mut turns = u64::MAX;

@@ -2,7 +2,9 @@
 // at all.
 //
 // Every method is total: where there is too little room it refuses with 4 and the bytes needed in all, and neither the
-// slice nor the position changes.
+// slice nor the position changes. `Cursor` is for the writers of this link, and so is its 4: it is no refusal of a
+// public entry point. There 4 means that the output is shorter than the frame, which a writer tests before it puts
+// anything.
 use put::Placed;
 use put::put;
 use put::put_record;

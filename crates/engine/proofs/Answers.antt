@@ -1,20 +1,28 @@
 -- Answers and counts behind the open string p: what one byte does to them, and bytes that stand before a call.
 use mathlib.Core.Path.{_≡_, refl, sym, _∙_, ap, subst}
+use mathlib.Core.Logic.{_≢_}
 use mathlib.Core.List.{List, [], _∷_, _++_, append-assoc, cons≢nil}
 use mathlib.Core.Option.{Option, none, some}
 use Prim.Native.Nat.{ℕ, zero, suc, _+_, _<_}
 use native.Mathlib.Omega.{arith}
 use lib.ListN.{length, take, length-append}
-use Rattle.framing.specs.Framing.{Framing, Piece}
+use Rattle.framing.proofs.Framing.{Framing}
+use Rattle.framing.specs.Piece.{Piece}
 use Rattle.framing.specs.Division.{EndsAt}
-use Rattle.framing.specs.Scanner.{step, rest}
+use Rattle.framing.proofs.Scanner.{step, rest}
 use Rattle.framing.proofs.Ends.{ends-out, ends-in}
-use Rattle.framing.proofs.Scanner.{from}
+use Rattle.framing.proofs.Scanned.{from}
 use Rattle.framing.proofs.Events.{none≢some, step-event, event-step, shift}
-use Rattle.engine.specs.Engine.{Decoding}
 use Rattle.engine.specs.Calls.{Did, fed, sliced, cleared}
-use Rattle.engine.specs.Correct.{Answered, frame, no-frame, no-byte, Told, to-frame, to-end}
-use Rattle.engine.specs.Lawful.{answerAt}
+use Rattle.engine.specs.Fulfilled.{Told, to-frame, to-end}
+use Rattle.engine.proofs.Lawful.{answerAt, Decoding}
+
+-- The call took the bytes t behind n bytes of a stretch with the pieces ps. Its answer is that of the frame that ends
+-- with the last byte taken, and none where no frame ends there or no byte was taken.
+pub data Answering {A : Type 0} (D : Decoding A) (ps : List Piece) (n : ℕ) (t : List ℕ) (a : A) : Type 0 where
+  frame : (f : List ℕ) → t ≢ [] → EndsAt ps (n + length t) f → a ≡ D .answerOf f → Answering D ps n t a
+  no-frame : ((f : List ℕ) → ¬ EndsAt ps (n + length t) f) → a ≡ D .none → Answering D ps n t a
+  no-byte : t ≡ [] → a ≡ D .none → Answering D ps n t a
 
 pub placed : (ps : List Piece) {m n : ℕ} {f : List ℕ} → m ≡ n → EndsAt ps m f → EndsAt ps n f
 placed ps {f = f} e x = subst (λ (i : ℕ). EndsAt ps i f) e x
@@ -72,8 +80,8 @@ module _ (F : Framing) where
   module _ {A : Type 0} (D : Decoding A) where
     -- Answers, behind other bytes.
     answered-behind : (p u v : List ℕ) (n : ℕ) (t : List ℕ) (a : A)
-        → Answered D (from F (rest F p u) v) (length (rest F p u) + n) t a
-        → Answered D (from F p (u ++ v)) (length p + (length u + n)) t a
+        → Answering D (from F (rest F p u) v) (length (rest F p u) + n) t a
+        → Answering D (from F p (u ++ v)) (length p + (length u + n)) t a
     answered-behind p u v n [] a (frame f ne x e) = absurd (ne refl)
     answered-behind p u v n [] a (no-frame x e) = no-byte refl e
     answered-behind p u v n [] a (no-byte z e) = no-byte refl e
@@ -85,19 +93,19 @@ module _ (F : Framing) where
 
     -- A byte's answer.
     pub answered-byte : (p : List ℕ) (b : ℕ) (v : List ℕ) (a : A) → a ≡ answerAt D (step F p b .ended)
-        → Answered D (from F p (b ∷ v)) (length p + 0) (b ∷ []) a
+        → Answering D (from F p (b ∷ v)) (length p + 0) (b ∷ []) a
     answered-byte p b v a e = go (step F p b .ended) refl
       where
         go : (o : Option (List ℕ)) → step F p b .ended ≡ o
-            → Answered D (from F p (b ∷ v)) (length p + 0) (b ∷ []) a
+            → Answering D (from F p (b ∷ v)) (length p + 0) (b ∷ []) a
         go none q = no-frame (no-event p b v q) (e ∙ ap (answerAt D) q)
         go (some f) q = frame f cons≢nil
             (placed (from F p (b ∷ v)) (omega arith) (ends-out (event-step F p b v f q))) (e ∙ ap (answerAt D) q)
 
     -- One more byte in front, at which no frame ended.
     pub answered-more : (p : List ℕ) (b : ℕ) (t v : List ℕ) (a : A) → step F p b .ended ≡ none
-        → Answered D (from F (step F p b .pending) (t ++ v)) (length (step F p b .pending) + 0) t a
-        → Answered D (from F p (b ∷ (t ++ v))) (length p + 0) (b ∷ t) a
+        → Answering D (from F (step F p b .pending) (t ++ v)) (length (step F p b .pending) + 0) t a
+        → Answering D (from F p (b ∷ (t ++ v))) (length p + 0) (b ∷ t) a
     answered-more p b [] v a q (frame f ne x e) = absurd (ne refl)
     answered-more p b [] v a q (no-frame x e) = no-frame (no-event p b v q) e
     answered-more p b [] v a q (no-byte z e) = no-frame (no-event p b v q) e
@@ -110,8 +118,8 @@ module _ (F : Framing) where
 
     -- A whole call, behind p and the bytes u of a stretch that has the bytes v.
     abbrev pub RightBehind : (p u v : List ℕ) → Did A → Type 0
-    RightBehind p u v (fed b a) = Answered D (from F p v) (length p + length u) (b ∷ []) a
-    RightBehind p u v (sliced bs k a) = Answered D (from F p v) (length p + length u) (take k bs) a
+    RightBehind p u v (fed b a) = Answering D (from F p v) (length p + length u) (b ∷ []) a
+    RightBehind p u v (sliced bs k a) = Answering D (from F p v) (length p + length u) (take k bs) a
         × Told (from F p (u ++ bs)) (length p + length u) (length bs) k
     RightBehind p u v cleared = Unit {0}
 

@@ -2,45 +2,35 @@
 
 -- When a list is one of bytes.
 pub mod Bytes
--- What the scanner's pieces add up to.
-pub mod Totals
 -- Runs, taken apart.
 pub mod Runs
--- The stretches, glued by resets, are the history.
-pub mod Glue
+-- The stretches, and where a call stands in them.
+pub mod Stretches
+-- What one call of an engine has to do, so that every list of calls is right.
+pub mod Lawful
 -- A byte delivers the frame that it ends.
 pub mod Deliveries
 -- Answers and counts behind a pending string.
 pub mod Answers
--- Stretches of calls, the first of them behind a pending string.
-pub mod Stretches
 -- What a lawful engine's calls come to.
 pub mod Moves
--- A lawful engine is right over any list of calls.
-pub mod Correct
 -- At a place one frame ends, one answer is right, and one count.
 pub mod Sure
--- The claim about a history, call by call.
-pub mod InTurn
+-- A call that is right behind what is pending is right in its stretch.
+pub mod Rights
+-- A lawful engine fulfils demand 3.
+pub mod Fulfilled
+-- The claim is the same over strings of which the same are open and whole.
+pub mod Over
+-- Every byte taken is accounted for.
+pub mod Accounts
 -- The claim leaves no choice.
 pub mod Same
 -- An empty slice takes no byte, and delivers nothing.
 pub mod Empty
--- A lawful engine is right from any state.
-pub mod Behind
--- Every frame of bytes fed one by one is answered.
-pub mod Fed
--- Two lawful engines do the same from states that stand for the same.
-pub mod Alike
+-- Bytes fed one by one are one stretch.
+pub mod Feeds
 -- A run that is stored and resumed is as one run.
 pub mod Resumed
--- Every byte taken is accounted for.
-pub mod Accounts
 -- What every byte fed keeps, bytes fed up to a frame's end keep.
 pub mod Until
--- The reference engine is lawful.
-pub mod Reference
--- There is a coded engine, of which the claims speak.
-pub mod Coded
--- The theorem holds of the sample.
-pub mod Sample

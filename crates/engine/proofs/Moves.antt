@@ -5,19 +5,24 @@ use mathlib.Core.Option.{Option, none, some}
 use Prim.Native.Nat.{ℕ, suc, _+_, min}
 use native.Mathlib.Omega.{arith}
 use lib.ListN.{length, take}
-use Rattle.framing.specs.Framing.{Framing}
-use Rattle.framing.specs.Tally.{Counting, total}
-use Rattle.framing.specs.Scanner.{step, closed, rest}
+use Rattle.framing.proofs.Framing.{Framing}
+use Rattle.framing.proofs.Counting.{Counting, total}
+use Rattle.framing.proofs.Scanner.{step, closed, rest}
 use Rattle.framing.proofs.Division.{sum-append}
-use Rattle.framing.proofs.Scanner.{from}
+use Rattle.framing.proofs.Scanned.{from}
 use Rattle.engine.specs.Bytes.{Byte, Bytes}
-use Rattle.engine.specs.Engine.{Decoding, Sliced, Engine, ifDelivered, answers}
-use Rattle.engine.specs.Calls.{fed, sliced}
-use Rattle.engine.specs.Correct.{Answered, no-byte, Told, to-end}
-use Rattle.engine.specs.Lawful.{stopIf, feedUntil, Lawful}
-use Rattle.engine.proofs.Answers.{answered-byte, answered-more, told-more, told-here}
-use Rattle.engine.proofs.Deliveries.{none-delivered, quiet-more, byte-delivers}
-use Rattle.engine.proofs.Stretches.{DidRight}
+use Rattle.engine.specs.Engine.{Sliced, Engine}
+use Rattle.engine.specs.Calls.{Did, fed, sliced, taken}
+use Rattle.engine.specs.Fulfilled.{delivery, Told, to-end}
+use Rattle.engine.proofs.Lawful.{stopIf, feedUntil, Lawful, Decoding}
+use Rattle.engine.proofs.Answers.{Answering, no-byte, RightBehind, answered-byte, answered-more, told-more}
+use Rattle.engine.proofs.Answers.{told-here}
+use Rattle.engine.proofs.Deliveries.{ifDelivered, answersOf, none-delivered, quiet-more, byte-delivers}
+
+-- A call that is the first behind p, whatever follows.
+pub record DidRight (F : Framing) {A : Type 0} (D : Decoding A) (p : List ℕ) (d : Did A) : Type 0 where
+  pub right : (v : List ℕ) → RightBehind F D p [] (taken d ++ v) d
+  pub delivered : delivery (D .delivers) d ≡ answersOf D (closed F p (taken d))
 
 module _ (F : Framing) {S A K : Type 0} (D : Decoding A) (C : Counting K) (E : Engine S A K)
     {Valid : S → Type 0} (L : Lawful F D C E Valid) where
@@ -57,10 +62,10 @@ module _ (F : Framing) {S A K : Type 0} (D : Decoding A) (C : Counting K) (E : E
   -- A slice call is right.
   pub record SliceRight (s : S) (bs : List ℕ) (r : Sliced S A) : Type 0 where
     pub moves : Moves s (take (r .told) bs) (r .state)
-    pub answered : (v : List ℕ) → Answered D (from F (E .pending s) (take (r .told) bs ++ v))
+    pub answered : (v : List ℕ) → Answering D (from F (E .pending s) (take (r .told) bs ++ v))
         (length (E .pending s) + 0) (take (r .told) bs) (r .answer)
     pub counts : Told (from F (E .pending s) bs) (length (E .pending s) + 0) (length bs) (r .told)
-    pub delivered : ifDelivered D (r .answer) ≡ answers D (closed F (E .pending s) (take (r .told) bs))
+    pub delivered : ifDelivered D (r .answer) ≡ answersOf D (closed F (E .pending s) (take (r .told) bs))
 
   module _ (s : S) (b : ℕ) (bs : List ℕ) (ok : Valid s) (h : Byte b) where
     -- The byte ends a frame, and the call is over; or it does not, and the call goes on as r.

@@ -1,23 +1,25 @@
 -- The division leaves no choice: at a place at most one frame ends, and so one answer and one count are right.
-use mathlib.Core.Path.{_≡_, refl, sym, _∙_, ap}
+use mathlib.Core.Path.{_≡_, refl, sym, _∙_}
+use mathlib.Core.Logic.{_↔_}
+use mathlib.Core.Bool.{Bool, true, false}
 use mathlib.Core.List.{List, []}
 use Prim.Native.Nat.{ℕ, _<_}
 use native.Mathlib.Decide.{decLt}
 use native.Mathlib.Omega.{arith}
-use Rattle.framing.specs.Framing.{Framing, Piece}
-use Rattle.framing.specs.Division.{Division, is-empty, is-stray, is-broken, is-whole, is-unfinished, EndsAt}
+use Rattle.framing.proofs.Framing.{Framing, Divides}
+use Rattle.framing.specs.Piece.{Piece}
+use Rattle.framing.specs.Division.{is-empty, is-stray, is-broken, is-whole, is-unfinished, EndsAt}
 use Rattle.framing.proofs.Ends.{Ends, here, later, ends-nil, ends-in}
-use Rattle.framing.proofs.Scanner.{scanner-complete}
+use Rattle.framing.proofs.Scanned.{scanner-complete}
 use Rattle.framing.proofs.Events.{late}
-use Rattle.engine.specs.Engine.{Decoding}
-use Rattle.engine.specs.Correct.{Answered, frame, no-frame, no-byte, Told, to-frame, to-end}
+use Rattle.engine.specs.Fulfilled.{Protocol, LastEnds, Answered, Told, to-frame, to-end}
 
 module _ (F : Framing) where
   -- No frame of a division is empty.
-  behind-start : {s : List ℕ} {ps : List Piece} {n : ℕ} {f : List ℕ} → Division F s ps → Ends ps n f → 0 < n
+  behind-start : {s : List ℕ} {ps : List Piece} {n : ℕ} {f : List ℕ} → Divides F s ps → Ends ps n f → 0 < n
   behind-start {s} {ps} {n} {f} d x = late F [] s n f (rw (scanner-complete F d) at x)
 
-  same-frame : {s : List ℕ} {ps : List Piece} {m n : ℕ} {f g : List ℕ} → Division F s ps → m ≡ n
+  same-frame : {s : List ℕ} {ps : List Piece} {m n : ℕ} {f g : List ℕ} → Divides F s ps → m ≡ n
       → Ends ps m f → Ends ps n g → f ≡ g
   same-frame is-empty q x y = absurd (ends-nil x)
   same-frame (is-stray b d) q (later x e) (later y e′) = same-frame d (omega arith) x y
@@ -28,21 +30,26 @@ module _ (F : Framing) where
   same-frame (is-whole w d) q (later x e) (later y e′) = same-frame d (omega arith) x y
   same-frame (is-unfinished ne o w) q (later x e) y = absurd (ends-nil x)
 
-  pub frame-unique : {s : List ℕ} {ps : List Piece} {n : ℕ} {f g : List ℕ} → Division F s ps
+  pub frame-unique : {s : List ℕ} {ps : List Piece} {n : ℕ} {f g : List ℕ} → Divides F s ps
       → EndsAt ps n f → EndsAt ps n g → f ≡ g
   frame-unique d x y = same-frame d refl (ends-in x) (ends-in y)
 
-  pub answer-unique : {A : Type 0} (D : Decoding A) {s : List ℕ} {ps : List Piece} {n : ℕ} {t : List ℕ} {a b : A}
-      → Division F s ps → Answered D ps n t a → Answered D ps n t b → a ≡ b
-  answer-unique D d (frame f ne x e) (frame g ne′ y e′) = e ∙ ap (D .answerOf) (frame-unique d x y) ∙ sym e′
-  answer-unique D d (frame f ne x e) (no-frame y e′) = absurd (y f x)
-  answer-unique D d (frame f ne x e) (no-byte z e′) = absurd (ne z)
-  answer-unique D d (no-frame x e) (frame g ne y e′) = absurd (x g y)
-  answer-unique D d (no-frame x e) (no-frame y e′) = e ∙ sym e′
-  answer-unique D d (no-frame x e) (no-byte z e′) = e ∙ sym e′
-  answer-unique D d (no-byte z e) (frame g ne y e′) = absurd (ne z)
-  answer-unique D d (no-byte z e) (no-frame y e′) = e ∙ sym e′
-  answer-unique D d (no-byte z e) (no-byte z′ e′) = e ∙ sym e′
+pub clash : (b : Bool) → b ≡ true → b ≡ false → ⊥
+clash b p q = let z : _≡_ {A = ℕ} 0 1 = cc in omega arith
+
+-- Where the same frames end, one answer is right.
+pub answer-unique : {A K : Type 0} (P : Protocol A K) {ps qs : List Piece} {u t : List ℕ} {a b : A}
+    → ((f : List ℕ) → LastEnds ps u t f ↔ LastEnds qs u t f) → Answered P ps u t a → Answered P qs u t b → a ≡ b
+answer-unique P {a = a} {b} same x y = go (P .delivers a) (P .delivers b) refl refl
+  where
+    go : (c d : Bool) → P .delivers a ≡ c → P .delivers b ≡ d → a ≡ b
+    go true d p q =
+        let f = x .when .0 p in
+        x .which (f .0) (f .1) (f .2) ∙ sym (y .which (f .0) (same (f .0) .0 (f .1)) (f .2))
+    go false true p q =
+        let f = y .when .0 q in
+        absurd (clash (P .delivers a) (x .when .1 (f .0, same (f .0) .1 (f .1), f .2)) p)
+    go false false p q = x .else p ∙ sym (y .else q)
 
 pub told-unique : {ps : List Piece} {n m j k : ℕ} → Told ps n m j → Told ps n m k → j ≡ k
 told-unique {ps} {n} {m} {j} {k} (to-frame f h l x none-before) (to-frame g h′ l′ y none-before′) =

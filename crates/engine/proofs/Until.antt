@@ -2,11 +2,11 @@
 use mathlib.Core.List.{List, [], _∷_}
 use mathlib.Core.Option.{Option, none, some}
 use Prim.Native.Nat.{ℕ, suc}
-use Rattle.framing.specs.Framing.{Framing}
-use Rattle.framing.specs.Scanner.{step}
+use Rattle.framing.proofs.Framing.{Framing}
+use Rattle.framing.proofs.Scanner.{step}
 use Rattle.engine.specs.Bytes.{Byte, Bytes}
-use Rattle.engine.specs.Engine.{Decoding, Sliced, Engine}
-use Rattle.engine.specs.Lawful.{stopIf, feedUntil}
+use Rattle.engine.specs.Engine.{Sliced, Engine}
+use Rattle.engine.proofs.Lawful.{stopIf, feedUntil, Decoding}
 
 module _ (F : Framing) {S A K : Type 0} (D : Decoding A) (E : Engine S A K) (Valid : S → Type 0)
     (keeps : (s : S) (b : ℕ) → Valid s → Byte b → Valid (E .feed s b .0)) where

@@ -4,13 +4,11 @@
 --   Goes          the call is no reset
 --   feeds         the bytes of a string, fed one by one
 --   Did A         what a call did: the byte and its answer; the slice, the count told of it and the answer; a reset
---   Took          the call took bytes, or could have: it was no reset
 --   taken         the bytes that a call took: of a slice, as many as it told
 --   takenBy       the bytes that a list of calls took
---   stretches     a history, cut at its resets: 01's stretches, as calls
---   glue          stretches, with a reset between each two of them
---   lastOf        the last stretch
---   sumOver f     the sum of a number f over stretches
+--   stretches     01's stretches, as strings
+--   soFar         the last of them
+--   upToReset     what calls take before the first reset among them
 use mathlib.Core.List.{List, [], _∷_, _++_, map}
 use Prim.Native.Nat.{ℕ, _+_}
 use lib.ListN.{take}
@@ -54,27 +52,24 @@ module _ {A : Type 0} where
   takenBy [] = []
   takenBy (d ∷ ds) = taken d ++ takenBy ds
 
-  -- The stretches, with one more call in front of the first.
-  abbrev pub joined : Did A → List (List (Did A)) → List (List (Did A))
-  joined d [] = (d ∷ []) ∷ []
-  joined d (g ∷ gs) = (d ∷ g) ∷ gs
+  -- The strings of the stretches: p, which was pending before the first call, and what the calls took up to a reset;
+  -- and so on from nothing behind each reset.
+  abbrev pub stretches : List ℕ → List (Did A) → List (List ℕ)
+  stretches p [] = p ∷ []
+  stretches p (fed b a ∷ ds) = stretches (p ++ (b ∷ [])) ds
+  stretches p (sliced bs k a ∷ ds) = stretches (p ++ take k bs) ds
+  stretches p (cleared ∷ ds) = p ∷ stretches [] ds
 
-  abbrev pub stretches : List (Did A) → List (List (Did A))
-  stretches [] = [] ∷ []
-  stretches (cleared ∷ ds) = [] ∷ stretches ds
-  stretches (fed b a ∷ ds) = joined (fed b a) (stretches ds)
-  stretches (sliced bs k a ∷ ds) = joined (sliced bs k a) (stretches ds)
+  -- The last of them: the stretch so far, behind the calls.
+  abbrev pub soFar : List ℕ → List (Did A) → List ℕ
+  soFar p [] = p
+  soFar p (fed b a ∷ ds) = soFar (p ++ (b ∷ [])) ds
+  soFar p (sliced bs k a ∷ ds) = soFar (p ++ take k bs) ds
+  soFar p (cleared ∷ ds) = soFar [] ds
 
-  abbrev pub glue : List (List (Did A)) → List (Did A)
-  glue [] = []
-  glue (g ∷ []) = g
-  glue (g ∷ h ∷ gs) = g ++ (cleared ∷ glue (h ∷ gs))
-
-  abbrev pub lastOf : List (List (Did A)) → List (Did A)
-  lastOf [] = []
-  lastOf (g ∷ []) = g
-  lastOf (g ∷ h ∷ gs) = lastOf (h ∷ gs)
-
-  abbrev pub sumOver : (List ℕ → ℕ) → List (List (Did A)) → ℕ
-  sumOver f [] = 0
-  sumOver f (g ∷ gs) = f (takenBy g) + sumOver f gs
+  -- What the calls take before the first reset among them.
+  abbrev pub upToReset : List (Did A) → List ℕ
+  upToReset [] = []
+  upToReset (fed b a ∷ ds) = b ∷ upToReset ds
+  upToReset (sliced bs k a ∷ ds) = take k bs ++ upToReset ds
+  upToReset (cleared ∷ ds) = []

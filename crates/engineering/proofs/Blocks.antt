@@ -1,13 +1,17 @@
 -- The engineering block: when it fits, and what it is read as.
-use mathlib.Core.Path.{_≡_, ap, sym, _∙_}
+use mathlib.Core.Path.{_≡_, refl, ap, sym, _∙_}
 use mathlib.Core.List.{List}
-use mathlib.Core.Bool.{true, false}
+use mathlib.Core.Bool.{Bool, true, false}
 use Prim.Native.Nat.{ℕ, _+_, _-_, _≤_, _<_}
 use native.Mathlib.Omega.{arith}
 use lib.ListN.{length, getD, take, drop}
 use borrow.Rule.Slice.PartAt.{part-to-end}
 use borrow.Author.Tests.{lt-ltb, le-ltb}
 use Rattle.byte_string.specs.Prefix.{padded}
+use Rattle.refusal.specs.Check.{orFailed}
+use Rattle.refusal.specs.declared.Check.{Check}
+use Rattle.refusal.specs.declared.Check.the-variants.{R8}
+use Rattle.refusal.specs.declared.MaybeCheck.the-variants as Maybe
 use Rattle.number.specs.declared.MaybeU8.the-variants.{Some, None}
 use Rattle.gates.specs.Gates.{fits, gatesAt}
 use Rattle.gates.specs.declared.Gates.{Gates}
@@ -22,9 +26,17 @@ use Rattle.engineering.specs.declared.CheckedEngineering.{CheckedEnginee
 cancel : (i n : ℕ) → i + n - i ≡ n
 cancel i n = omega arith
 
+held : (t : Bool) → orFailed t R8 Maybe.None ≡ Maybe.None → t ≡ true
+held true e = refl
+held false e = let z : _≡_ {A = ℕ} 0 1 = cc in absurd (omega arith)
+
+broken : (t : Bool) {c : Check} → orFailed t R8 Maybe.None ≡ Maybe.Some c → t ≡ false
+broken true e = let z : _≡_ {A = ℕ} 0 1 = cc in absurd (omega arith)
+broken false e = refl
+
 module _ (b : List ℕ) where
   -- What is read where the block fits, and where it does not.
-  block-fits : fits b ≡ true → checkedBlock b ≡ record { fits = true; engineering = engineeringOf b }
+  block-fits : fits b ≡ true → checkedBlock b ≡ record { failed = Maybe.None; engineering = engineeringOf b }
   unfolding checkedBlock
   block-fits h = rw h
 
@@ -39,7 +51,7 @@ module _ (b : List ℕ) where
       → r ≡ padded 8 (take (length b - (2 + g .moving + g .stationary)) (drop (2 + g .moving + g .stationary) b))
       → n ≡ extraCount (take (length b - (2 + g .moving + g .stationary)) (drop (2 + g .moving + g .stationary) b))
       → checkedBlock b ≡ record {
-        fits = true;
+        failed = Maybe.None;
         engineering = record {
           «moving_gates» = g .moving;
           «stationary_gates» = g .stationary;
@@ -63,16 +75,19 @@ module _ (b : List ℕ) where
       ) (block-fits (gates-some b g h .0))
 
   -- What the reader's answer says of the block.
-  pub read-fits : (k : CheckedEngineering) → k ≡ checkedBlock b → k .fits ≡ true
+  pub read-fits : (k : CheckedEngineering) → k ≡ checkedBlock b → k .failed ≡ Maybe.None
       → (fits b ≡ true) × (k .engineering ≡ engineeringOf b)
   unfolding checkedBlock
   read-fits k e h =
-      let f : fits b ≡ true = sym (ap (λ x. x .fits) e) ∙ h in
+      let f : fits b ≡ true = held (fits b) (sym (ap (λ x. x .failed) e) ∙ h) in
       (f, ap (λ x. x .engineering) e ∙ rw f)
 
-  pub read-unfit : (k : CheckedEngineering) → k ≡ checkedBlock b → k .fits ≡ false → fits b ≡ false
+  pub read-unfit : (k : CheckedEngineering) {c : Check} → k ≡ checkedBlock b → k .failed ≡ Maybe.Some c
+      → (fits b ≡ false) × (k .failed ≡ Maybe.Some R8)
   unfolding checkedBlock
-  read-unfit k e h = sym (ap (λ x. x .fits) e) ∙ h
+  read-unfit k e h =
+      let f : fits b ≡ false = broken (fits b) (sym (ap (λ x. x .failed) e) ∙ h) in
+      (f, ap (λ x. x .failed) e ∙ rw f)
 
 -- A reserved byte that was kept, and one that was not.
 module _ (e : Engineering) (i : ℕ) where

@@ -6,8 +6,8 @@
 --   engineeringOf b        what a block that fits is read as
 --   noEngineering          every field 0
 --   engineeringIf flag b   what the block b is read as; every field 0 with the flag off
---   checkedBlock b         whether the block b fits, and what it is then read as
---   noBlock                the same of a block that does not fit
+--   checkedBlock b         the answer to the block b: what it is read as; or that R8 fails, every field 0
+--   noBlock                the answer to a block that does not fit
 --   extraSlice e           the reserved bytes that were kept, with their valid count, at most 8
 --   extraAt e i            reserved byte i, or none
 use mathlib.Core.List.{List}
@@ -15,6 +15,9 @@ use mathlib.Core.Bool.{Bool, true, false}
 use Prim.Native.Nat.{ℕ, _+_, min}
 use lib.Dec.{ltb}
 use lib.ListN.{length, getD, take, drop, replicate}
+use Rattle.refusal.specs.Check.{orFailed}
+use Rattle.refusal.specs.declared.Check.the-variants.{R8}
+use Rattle.refusal.specs.declared.MaybeCheck.the-variants as Maybe
 use Rattle.gates.specs.Gates.{movingGates, stationaryGates, fits}
 use Rattle.byte_string.specs.Prefix.{padded}
 use Rattle.number.specs.Number.{answered, ifThere}
@@ -61,10 +64,10 @@ engineeringIf true b = engineeringOf b
 engineeringIf false b = noEngineering
 
 unfoldable pub checkedBlock : List ℕ → CheckedEngineering
-checkedBlock b = record { fits = fits b; engineering = engineeringIf (fits b) b }
+checkedBlock b = record { failed = orFailed (fits b) R8 Maybe.None; engineering = engineeringIf (fits b) b }
 
 abbrev pub noBlock : CheckedEngineering
-noBlock = record { fits = false; engineering = noEngineering }
+noBlock = record { failed = Maybe.Some R8; engineering = noEngineering }
 
 abbrev pub extraSlice : Engineering → ExtraSlice
 extraSlice e = record { bytes = e .extra; count = min (e .«extra_len») 8 }

@@ -6,6 +6,8 @@ use gates::Gates;
 use gates::MaybeGates;
 use number::MaybeU8;
 use number::least;
+use refusal::Check;
+use refusal::MaybeCheck;
 use wire::GATES;
 use wire::GateSlice;
 use wire::MAX_EXTRA;
@@ -38,9 +40,9 @@ pub struct Engineering {
     pub extra_len: u8,
 }
 
-// Whether the engineering block fits, and what it then reads as; else all 0.
+// What reading an engineering block gives: its fields; or the check that fails, beside fields that are all 0.
 pub struct CheckedEngineering {
-    pub fits: bool,
+    pub failed: MaybeCheck,
     pub engineering: Engineering,
 }
 
@@ -110,7 +112,7 @@ impl Engineering {
         let stationary_end = moving_end + gates.stationary as usize;
         let reserved = &block[stationary_end..];
         CheckedEngineering {
-            fits: true,
+            failed: MaybeCheck::None,
             engineering: Engineering {
                 moving_gates: gates.moving,
                 stationary_gates: gates.stationary,
@@ -142,7 +144,7 @@ fn no_block() -> CheckedEngineering
     ensures made { λ r. ⌜ r ≡ noBlock ⌝ }
 {
     CheckedEngineering {
-        fits: false,
+        failed: MaybeCheck::Some(Check::R8),
         engineering: no_engineering(),
     }
 }

@@ -22,7 +22,6 @@ use Rattle.wire.specs.declared.Kind.{Kind}
 use Rattle.wire.specs.declared.MaybeKind.{MaybeKind}
 use Rattle.wire.specs.declared.MaybeKind.the-variants as Found
 use Rattle.envelope.specs.Envelope.{family, announced, frameChecks, openedAs, envelope}
-use Rattle.envelope.specs.declared.Envelope.{Envelope}
 use Rattle.envelope.specs.declared.Envelope.the-variants.{Failed, Data}
 
 module _ (s : List ℕ) where

@@ -1,11 +1,10 @@
 -- The reader's answer by its checks: those of the envelope, then the body's.
 use mathlib.Core.Path.{_≡_, refl, ap, _∙_}
-use mathlib.Core.List.{List, [], _∷_, _++_}
-use mathlib.Core.Bool.{Bool, true, false}
+use mathlib.Core.List.{List, [], _∷_}
 use Prim.Native.Nat.{ℕ, _+_, _<_}
-use native.Mathlib.Omega.{arith}
 use lib.ListN.{length}
-use Rattle.refusal.specs.Check.{Checks, orFailed, firstFailed, Causes}
+use Rattle.refusal.specs.Refusal.{beside, returned}
+use Rattle.refusal.specs.Check.{Checks, orFailed, firstFailed, outcomeOf, Causes}
 use Rattle.refusal.proofs.Checks.{causes, failed-before, passed-before}
 use Rattle.refusal.specs.declared.Check.{Check}
 use Rattle.refusal.specs.declared.MaybeCheck.{MaybeCheck}
@@ -18,7 +17,9 @@ use Rattle.envelope.proofs.Opened.{failed-first, opened-data}
 use Rattle.envelope.proofs.Framed.{framed-dataOf, opened-framed}
 use Rattle.frame.specs.Frame.{bodyChecks, onData, thenBody, checksFor}
 use Rattle.frame.specs.Frame.{failingFrame, frameIf, decoded, frameAs, checkedFrame, parsedFrame}
+use Rattle.frame.specs.Frame.{noFrame, returnedFrame}
 use Rattle.frame.specs.declared.Frame.{Frame}
+use Rattle.frame.specs.declared.FrameResult.{FrameResult}
 
 -- Checks of the data, made on the frame that holds them.
 pub on-data : (cs : Checks) (s : List ℕ) → firstFailed (onData cs) s ≡ firstFailed cs (dataOf s)
@@ -46,15 +47,16 @@ checked-framed k d small =
     passes-framing (framed k d) k (6 + length d) (opened-framed k d small)
     ∙ ap (decoded 10 k) (framed-dataOf k d small)
 
--- The check that an answer names, and the causes of each number.
-as-failed : (o : MaybeCheck) (f : Frame) → frameIf o f .failed ≡ o
-as-failed (Maybe.Some c) f = refl
-as-failed Maybe.None f = refl
+-- What an answer returns by its first failed check.
+as-returned : (o : MaybeCheck) (f : Frame)
+    → beside (outcomeOf (frameIf o f .failed)) (frameIf o f .frame) ≡ returned noFrame (outcomeOf o) f
+as-returned (Maybe.Some c) f = refl
+as-returned Maybe.None f = refl
 
-pub checked-failed : (s : List ℕ) → checkedFrame s .failed ≡ firstFailed (checksFor s) s
-unfolding checkedFrame
-checked-failed s = as-failed (firstFailed (checksFor s) s) (frameAs (family s) (dataOf s))
-
-pub parsed-causes : (s : List ℕ) → Causes (checksFor s) s (parsedFrame s .outcome)
-unfolding parsedFrame
-parsed-causes s = rw (checked-failed s) (causes (checksFor s) s)
+-- Both clauses of the contract of `parse`.
+pub parsed-whole : (s : List ℕ) {r : FrameResult} → r ≡ parsedFrame s
+    → (r ≡ parsedFrame s) × Causes noFrame (checksFor s) s (returnedFrame r)
+unfolding parsedFrame checkedFrame
+parsed-whole s e =
+    let f = frameAs (family s) (dataOf s) in
+    (e, rw (e, as-returned (firstFailed (checksFor s) s) f) (causes (checksFor s) s noFrame f))

@@ -2,14 +2,15 @@
 --   bodyChecks k      the checks of a body of the family k
 --   checksFor s       all that is checked of s, in order: F1 to F4, then the body's, on the data, for the family of s
 --   frameOf i k d     the frame of the family k that the data d are read as, an acknowledgement's payload from i on
---   noAck, noFrame    every field 0
+--   noFrame           every field 0
 --   decoded i k d     the answer for the data d alone: the first check that fails, or the frame
 --   checkedFrame s    the answer for a whole frame
 --   parsedFrame s     the same with the refusal that the check gives
-use mathlib.Core.List.{List, [], _∷_, _++_, map}
-use mathlib.Core.Bool.{Bool, true, false}
+--   returnedFrame r   the number and the values that such an answer r returns
+use mathlib.Core.List.{List, [], _++_, map}
 use Prim.Native.Nat.{ℕ}
 use Rattle.envelope.specs.Envelope.{family, dataOf, frameChecks}
+use Rattle.refusal.specs.Refusal.{Returned, beside}
 use Rattle.refusal.specs.Check.{Checks, firstFailed, outcomeOf}
 use Rattle.wire.specs.declared.Kind.{Kind}
 use Rattle.wire.specs.declared.Kind.the-variants as Family
@@ -21,6 +22,7 @@ use Rattle.refusal.specs.declared.MaybeCheck.the-variants as Maybe
 use Rattle.layout.specs.Check.{reportChecks}
 use Rattle.report.specs.Report.{reportOf, noReport}
 use Rattle.ack.specs.Ack.{ackChecks, ackOf}
+pub use Rattle.ack.specs.Ack.{noAck}
 use Rattle.ack.specs.declared.Ack.{Ack}
 use Rattle.frame.specs.declared.FrameKind.the-variants as Is
 use Rattle.frame.specs.declared.Frame.{Frame}
@@ -41,9 +43,6 @@ thenBody Found.None = []
 
 abbrev pub checksFor : List ℕ → Checks
 checksFor s = frameChecks ++ thenBody (family s)
-
-abbrev pub noAck : Ack
-noAck = record { word = 0; ok = false; status = 0; payload = record { start = 0; len = 0 } }
 
 -- "a payload's start and length within": the acknowledgement read from the data, its payload beginning at i
 abbrev pub startingAt : ℕ → Ack → Ack
@@ -82,3 +81,6 @@ checkedFrame s = frameIf (firstFailed (checksFor s) s) (frameAs (family s) (data
 
 unfoldable pub parsedFrame : List ℕ → FrameResult
 parsedFrame s = record { outcome = outcomeOf (checkedFrame s .failed); frame = checkedFrame s .frame }
+
+abbrev pub returnedFrame : FrameResult → Returned Frame
+returnedFrame r = beside (r .outcome) (r .frame)

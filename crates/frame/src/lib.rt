@@ -17,7 +17,9 @@ use wire::Kind;
 ghost use mathlib.Core.Path.{_≡_};
 ghost use Rattle.refusal.specs.Check.{Causes};
 ghost use Rattle.wire.specs.declared.Kind.the-variants as Family;
-ghost use Rattle.frame.specs.Frame.{noAck, noFrame, decoded, checksFor, checkedFrame, parsedFrame, failingFrame};
+ghost use Rattle.ack.specs.Ack.{noAck};
+ghost use Rattle.frame.specs.Frame.{noFrame, decoded, checksFor, checkedFrame, parsedFrame, failingFrame};
+ghost use Rattle.frame.specs.Frame.{returnedFrame};
 
 // What a frame holds.
 pub enum FrameKind {
@@ -168,7 +170,8 @@ impl Frame {
     // the report's type is unknown.
     pub fn parse(bytes: &[u8]) -> FrameResult
         ensures parsed { λ r. ⌜ r ≡ parsedFrame (now (bytes .entry)) ⌝ }
-        ensures causes { λ r. ⌜ Causes (checksFor (now (bytes .entry))) (now (bytes .entry)) (r .outcome) ⌝ }
+        ensures causes { λ r. ⌜ Causes noFrame (checksFor (now (bytes .entry))) (now (bytes .entry))
+            (returnedFrame r) ⌝ }
     {
         let c = Frame::checked(bytes);
         let failed = c.failed;

@@ -3,14 +3,15 @@ use mathlib.Core.Path.{_≡_, refl, sym, _∙_, ap}
 use mathlib.Core.List.{List, [], _∷_, _++_, append-nil}
 use Prim.Native.Nat.{ℕ, _+_}
 use native.Mathlib.Omega.{arith}
-use Rattle.framing.specs.Framing.{Framing, Piece, stray, broken, whole, unfinished}
-use Rattle.framing.specs.Division.{Division, finished, cut}
-use Rattle.framing.specs.Tally.{Counting, total}
-use Rattle.framing.specs.Scanner.{Step, step, closed, rest, leftover}
+use Rattle.framing.proofs.Framing.{Framing, Divides}
+use Rattle.framing.specs.Piece.{Piece, stray, broken, whole, unfinished}
+use Rattle.framing.specs.Division.{finished, cut}
+use Rattle.framing.proofs.Counting.{Counting, total}
+use Rattle.framing.proofs.Scanner.{Step, step, closed, rest, leftover}
 use Rattle.framing.proofs.Division.{sum-append}
 use Rattle.framing.proofs.View.{Does, does-end, does-open, does-stray, does-break, does}
 use Rattle.framing.proofs.View.{nothing-waits, rest-waits}
-use Rattle.framing.proofs.Scanner.{from, from-append, scanner-complete, division-unique, scanner-sound}
+use Rattle.framing.proofs.Scanned.{from, from-append, scanner-complete, division-unique, scanner-sound}
 
 leftover-finished : (p : List ℕ) → finished (leftover p) ≡ []
 leftover-finished [] = refl
@@ -56,14 +57,14 @@ module _ (F : Framing) where
   from-cut p (c ∷ s) =
       let r = step F p c in does-cut (from F (r .pending) s) (does F p c) ∙ from-cut (r .pending) s
 
-  pub division-finished : {s : List ℕ} {ps : List Piece} → Division F s ps → finished ps ≡ closed F [] s
+  pub division-finished : {s : List ℕ} {ps : List Piece} → Divides F s ps → finished ps ≡ closed F [] s
   division-finished {s} d = ap finished (scanner-complete F d) ∙ from-finished [] s
 
-  pub division-cut : {s : List ℕ} {ps : List Piece} → Division F s ps → cut ps ≡ rest F [] s
+  pub division-cut : {s : List ℕ} {ps : List Piece} → Divides F s ps → cut ps ≡ rest F [] s
   division-cut {s} d = ap cut (scanner-complete F d) ∙ from-cut [] s
 
-  pub division-append : {s : List ℕ} (t : List ℕ) {ps qs : List Piece} → Division F s ps → Division F (s ++ t) qs
-      → (rs : List Piece) × (qs ≡ finished ps ++ rs) × Division F (cut ps ++ t) rs
+  pub division-append : {s : List ℕ} (t : List ℕ) {ps qs : List Piece} → Divides F s ps → Divides F (s ++ t) qs
+      → (rs : List Piece) × (qs ≡ finished ps ++ rs) × Divides F (cut ps ++ t) rs
   division-append {s} t d e = (
     from F (rest F [] s) t,
     scanner-complete F e ∙ from-append F [] s t
@@ -73,7 +74,7 @@ module _ (F : Framing) where
 
   -- So the totals of s ++ t are those of s, and those of its unfinished end and t.
   pub total-append : {K : Type 0} (C : Counting K) (k : K) {s : List ℕ} (t : List ℕ) {ps qs rs : List Piece}
-      → Division F s ps → Division F (s ++ t) qs → Division F (cut ps ++ t) rs
+      → Divides F s ps → Divides F (s ++ t) qs → Divides F (cut ps ++ t) rs
       → total C k qs ≡ total C k ps + total C k rs
   total-append C k t {ps} {qs} {rs} d e r =
       let x = division-append t d e in

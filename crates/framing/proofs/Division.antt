@@ -1,23 +1,20 @@
 -- What a division's pieces spell and add up to.
 use mathlib.Core.Path.{_≡_, refl, sym, _∙_, ap}
-use mathlib.Core.List.{List, [], _∷_, _++_, append-assoc, append-nil}
+use mathlib.Core.Logic.{_↔_}
+use mathlib.Core.List.{List, [], _∷_, _++_, append-nil}
 use Prim.Native.Nat.{ℕ, _+_}
 use native.Mathlib.Omega.{arith}
 use lib.ListN.{length, length-append}
-use Rattle.framing.specs.Framing.{Framing, Piece, stray, broken, whole, unfinished, bytes, spelled}
+use Rattle.framing.specs.Piece.{Piece, stray, broken, whole, unfinished, bytes, spelled}
 use Rattle.framing.specs.Division.{Division, is-empty, is-stray, is-broken, is-whole, is-unfinished}
 use Rattle.framing.specs.Tally.{lost, framed, waiting, sum}
-
-pub spelled-append : (ps qs : List Piece) → spelled (ps ++ qs) ≡ spelled ps ++ spelled qs
-spelled-append [] qs = refl
-spelled-append (p ∷ ps) qs = rw (spelled-append ps qs) (sym (append-assoc (bytes p) (spelled ps) (spelled qs)))
 
 pub sum-append : (f : Piece → ℕ) (ps qs : List Piece) → sum f (ps ++ qs) ≡ sum f ps + sum f qs
 sum-append f [] qs = omega arith
 sum-append f (p ∷ ps) qs = omega (arith, sum-append f ps qs)
 
 -- The pieces of a division spell the stream.
-pub division-spelled : {F : Framing} {s : List ℕ} {ps : List Piece} → Division F s ps → spelled ps ≡ s
+pub division-spelled : {O W : List ℕ → Type 0} {s : List ℕ} {ps : List Piece} → Division O W s ps → spelled ps ≡ s
 division-spelled is-empty = refl
 division-spelled (is-stray {b} n d) = ap (λ (l : List ℕ). b ∷ l) (division-spelled d)
 division-spelled (is-broken {s} ne o w n d) = ap (λ (l : List ℕ). s ++ l) (division-spelled d)
@@ -35,6 +32,16 @@ parts : (ps : List Piece) → length (spelled ps) ≡ sum lost ps + sum waiting 
 parts [] = refl
 parts (p ∷ ps) = omega (arith, length-append (bytes p) (spelled ps), part p, parts ps)
 
-pub division-length : {F : Framing} {s : List ℕ} {ps : List Piece} → Division F s ps
+pub division-length : {O W : List ℕ → Type 0} {s : List ℕ} {ps : List Piece} → Division O W s ps
     → length s ≡ sum lost ps + sum waiting ps + sum framed ps
-division-length {F} {s} {ps} d = ap length (sym (division-spelled d)) ∙ parts ps
+division-length {s = s} {ps} d = ap length (sym (division-spelled d)) ∙ parts ps
+
+-- A division over strings is one over others, where the same strings are open and the same are whole.
+module _ {O W O′ W′ : List ℕ → Type 0} (opens : (s : List ℕ) → O s ↔ O′ s) (wholes : (s : List ℕ) → W s ↔ W′ s) where
+  pub division-over : {s : List ℕ} {ps : List Piece} → Division O W s ps → Division O′ W′ s ps
+  division-over is-empty = is-empty
+  division-over (is-stray {b} n d) = is-stray (λ x. n (opens (b ∷ []) .1 x)) (division-over d)
+  division-over (is-broken {s} {c} ne o w n d) = is-broken ne (opens s .0 o) (λ x. w (wholes s .1 x))
+      (λ x. n (opens (s ++ (c ∷ [])) .1 x)) (division-over d)
+  division-over (is-whole {s} w d) = is-whole (wholes s .0 w) (division-over d)
+  division-over (is-unfinished {s} ne o w) = is-unfinished ne (opens s .0 o) (λ x. w (wholes s .1 x))

@@ -4,7 +4,7 @@ use mathlib.Core.List.{List, [], _∷_, _++_, append-assoc}
 use Prim.Native.Nat.{ℕ, _+_, _<_}
 use native.Mathlib.Omega.{arith}
 use lib.ListN.{length, length-append}
-use Rattle.framing.specs.Framing.{Piece, whole, bytes, spelled}
+use Rattle.framing.specs.Piece.{Piece, whole, bytes, spelled}
 use Rattle.framing.specs.Division.{EndsAt}
 
 -- `EndsAt` by the pieces, one after another.

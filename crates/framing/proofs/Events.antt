@@ -6,13 +6,14 @@ use mathlib.Core.Option.{Option, none, some}
 use Prim.Native.Nat.{ℕ, suc, _+_, _<_}
 use native.Mathlib.Omega.{arith}
 use lib.ListN.{length, length-append}
-use Rattle.framing.specs.Framing.{Framing, Piece, broken}
-use Rattle.framing.specs.Division.{Division, EndsAt}
-use Rattle.framing.specs.Scanner.{Step, step, rest, leftover}
+use Rattle.framing.proofs.Framing.{Framing, Divides}
+use Rattle.framing.specs.Piece.{Piece, broken}
+use Rattle.framing.specs.Division.{EndsAt}
+use Rattle.framing.proofs.Scanner.{Step, step, rest, leftover}
 use Rattle.framing.proofs.Ends.{Ends, here, later, ends-out, ends-in, ends-nil, ends-to, ends-behind}
 use Rattle.framing.proofs.Ends.{ends-past}
 use Rattle.framing.proofs.View.{Does, does-end, does-open, does-stray, does-break, does, step-length}
-use Rattle.framing.proofs.Scanner.{from, then, scanner-complete}
+use Rattle.framing.proofs.Scanned.{from, then, scanner-complete}
 
 pub none≢some : {f : List ℕ} → _≡_ {A = Option (List ℕ)} none (some f) → ⊥
 none≢some e = let z : _≡_ {A = ℕ} 0 1 = cc in omega arith
@@ -86,7 +87,7 @@ module _ (F : Framing) where
       )
 
   -- The byte c behind s ends a frame if and only if a whole piece of any division that goes on from there ends there.
-  pub event : (s : List ℕ) (c : ℕ) (t : List ℕ) {ps : List Piece} → Division F (s ++ (c ∷ t)) ps → (f : List ℕ)
+  pub event : (s : List ℕ) (c : ℕ) (t : List ℕ) {ps : List Piece} → Divides F (s ++ (c ∷ t)) ps → (f : List ℕ)
       → EndsAt ps (length s + 1) f ↔ (step F (rest F [] s) c .ended ≡ some f)
   event s c t {ps} d f =
       let e = shift [] s (c ∷ t) 1 f (omega arith) in

@@ -5,10 +5,11 @@ use mathlib.Core.List.{List, [], _∷_, cons≢nil}
 use Prim.Native.Nat.{ℕ, zero, suc, _-_, _≤_, _<_}
 use native.Mathlib.Omega.{arith}
 use lib.ListN.{length, length-append, replicate}
-use Rattle.framing.specs.Framing.{Framing, Piece, broken, unfinished}
-use Rattle.framing.specs.Division.{Division, is-empty, is-stray, is-broken, is-whole, is-unfinished}
+use Rattle.framing.proofs.Framing.{Framing, Divides}
+use Rattle.framing.specs.Piece.{Piece, broken, unfinished}
+use Rattle.framing.specs.Division.{is-empty, is-stray, is-broken, is-whole, is-unfinished}
 use Rattle.framing.specs.Tally.{resynced, sum}
-use Rattle.framing.proofs.Scanner.{division-unique}
+use Rattle.framing.proofs.Scanned.{division-unique}
 
 filled : (s : List ℕ) → s ≢ [] → 0 < length s
 filled [] ne = absurd (ne refl)
@@ -16,7 +17,7 @@ filled (b ∷ s) ne = omega arith
 
 module _ (F : Framing) where
   -- Of n bytes at most n - 1 starts break, and none of none.
-  pub resynced-bound : {s : List ℕ} {ps : List Piece} → Division F s ps → sum resynced ps ≤ length s - 1
+  pub resynced-bound : {s : List ℕ} {ps : List Piece} → Divides F s ps → sum resynced ps ≤ length s - 1
   resynced-bound is-empty = omega arith
   resynced-bound (is-stray n d) = omega (arith, resynced-bound d)
   resynced-bound (is-broken {s} {c} {t} ne o w n d) =
@@ -30,7 +31,7 @@ module _ (F : Framing) where
     again zero = unfinished (c ∷ []) ∷ []
     again (suc m) = broken (c ∷ []) ∷ again m
 
-    again-divides : (m : ℕ) → Division F (replicate (suc m) c) (again m)
+    again-divides : (m : ℕ) → Divides F (replicate (suc m) c) (again m)
     again-divides zero = is-unfinished cons≢nil o w
     again-divides (suc m) = is-broken {s = c ∷ []} cons≢nil o w n (again-divides m)
 
@@ -39,5 +40,5 @@ module _ (F : Framing) where
     again-breaks (suc m) = omega (arith, again-breaks m)
 
     -- Of m + 1 of them m break.
-    pub resynced-reached : (m : ℕ) {ps : List Piece} → Division F (replicate (suc m) c) ps → sum resynced ps ≡ m
+    pub resynced-reached : (m : ℕ) {ps : List Piece} → Divides F (replicate (suc m) c) ps → sum resynced ps ≡ m
     resynced-reached m d = ap (sum resynced) (division-unique F d (again-divides m)) ∙ again-breaks m

@@ -1,120 +1,66 @@
--- The scanner's pieces are the division, and the only one.
-use mathlib.Core.Path.{_≡_, refl, sym, _∙_, ap}
-use mathlib.Core.Logic.{_≢_}
-use mathlib.Core.List.{List, [], _∷_, _++_, append-assoc, append-nil, cons≢nil}
+-- What one more byte does to a division: it is the division's own rule, read from left to right. What stands before the
+-- byte matters only through the pending string, the unfinished end of what came before.
+--   Step         what a byte did: the pieces that it closed, the frame that it ended, what is pending now
+--   step F p c   what the byte c does behind the pending string p
+--   closed F p s the pieces that the string s closes behind p
+--   rest F p s   what is pending after s behind p
+--   leftover p   a pending string at the end of a stream, as its unfinished end
+--   pieces F s   the pieces of the string s
+use mathlib.Core.List.{List, [], _∷_, _++_}
+use mathlib.Core.Option.{Option, none, some}
 use Prim.Native.Nat.{ℕ}
-use lib.Seq.{append-snoc}
-use Rattle.framing.specs.Framing.{Framing, Piece, stray, broken, whole, unfinished, Waits}
-use Rattle.framing.specs.Division.{Division, is-empty, is-stray, is-broken, is-whole, is-unfinished, Divided}
-use Rattle.framing.specs.Scanner.{Step, step, closed, rest, leftover, pieces}
-use Rattle.framing.proofs.View.{nothing-waits, Does, does-end, does-open, does-stray, does-break, does}
-use Rattle.framing.proofs.View.{step-whole, step-on, step-over}
+use Rattle.framing.proofs.Framing.{Framing}
+use Rattle.framing.specs.Piece.{Piece, stray, broken, whole, unfinished}
+
+pub record Step : Type 0 where
+  pub closed : List Piece
+  pub ended : Option (List ℕ)
+  pub pending : List ℕ
+
+-- The byte ended the frame s; made the open string s; was stray; or broke the open string s, and then did r.
+abbrev pub ends : List ℕ → Step
+ends s = record { closed = whole s ∷ []; ended = some s; pending = [] }
+
+abbrev pub opens : List ℕ → Step
+opens s = record { closed = []; ended = none; pending = s }
+
+abbrev pub strays : ℕ → Step
+strays c = record { closed = stray c ∷ []; ended = none; pending = [] }
+
+abbrev pub breaks : List ℕ → Step → Step
+breaks s r = record { closed = broken s ∷ r .closed; ended = r .ended; pending = r .pending }
+
+-- The string s, longer by its last byte, is a frame, or waits for more, or else.
+abbrev pub grown : {W O : Type 0} → Dec W → Dec O → List ℕ → Step → Step
+grown (yes w) o s else = ends s
+grown (no w) (yes o) s else = opens s
+grown (no w) (no o) s else = else
 
 module _ (F : Framing) where
-  -- The pieces of s behind the open string p; and those of s behind what a byte left.
-  abbrev pub from : List ℕ → List ℕ → List Piece
-  from p [] = leftover p
-  from p (c ∷ s) = step F p c .closed ++ from (step F p c .pending) s
+  -- A byte with nothing before it: it is a frame, or begins one, or is stray.
+  abbrev pub start : ℕ → Step
+  start c = grown (F .whole? (c ∷ [])) (F .open? (c ∷ [])) (c ∷ []) (strays c)
 
-  abbrev pub then : Step → List ℕ → List Piece
-  then r s = r .closed ++ from (r .pending) s
+  -- A byte that does not go on with what is pending breaks it, and is tried as a new start. Only that byte is.
+  abbrev pub over : List ℕ → ℕ → Step
+  over [] c = strays c
+  over (b ∷ p) c = breaks (b ∷ p) (start c)
 
-  pub from-append : (p s t : List ℕ) → from p (s ++ t) ≡ closed F p s ++ from (rest F p s) t
-  from-append p [] t = refl
-  from-append p (c ∷ s) t =
-      let r = step F p c in
-      ap (λ (l : List Piece). r .closed ++ l) (from-append (r .pending) s t)
-      ∙ sym (append-assoc (r .closed) (closed F (r .pending) s) (from (rest F (r .pending) s) t))
+  -- A byte behind a pending string: it ends a frame, or goes on with it, or starts over.
+  abbrev pub step : List ℕ → ℕ → Step
+  step p c = grown (F .whole? (p ++ (c ∷ []))) (F .open? (p ++ (c ∷ []))) (p ++ (c ∷ [])) (over p c)
 
-  -- What stands in front of more of an open string is open, and not whole.
-  before-more : (q : List ℕ) (d : ℕ) (t : List ℕ) → F .Open (q ++ (d ∷ t)) → Waits F q
-  before-more q d t o =
-      let longer : F .Open (q ++ (d ∷ [])) = F .laws .open-prefix (q ++ (d ∷ [])) t (rw append-snoc o) in
-      (F .laws .open-prefix q (d ∷ t) o, λ w. F .laws .whole-ends q d w longer)
+  abbrev pub closed : List ℕ → List ℕ → List Piece
+  closed p [] = []
+  closed p (c ∷ s) = step p c .closed ++ closed (step p c .pending) s
 
-  waits-before : (q t : List ℕ) → Waits F (q ++ t) → Waits F q
-  waits-before q [] w = rw append-nil at w
-  waits-before q (d ∷ t) w = before-more q d t (w .0)
+  abbrev pub rest : List ℕ → List ℕ → List ℕ
+  rest p [] = p
+  rest p (c ∷ s) = rest (step p c .pending) s
 
-  -- The scanner takes in an open string.
-  pub absorb : (p t u : List ℕ) → Waits F (p ++ t) → from p (t ++ u) ≡ from (p ++ t) u
-  absorb p [] u w = rw append-nil
-  absorb p (c ∷ t) u w =
-      let w′ : Waits F ((p ++ (c ∷ [])) ++ t) = rw append-snoc w in
-      ap (λ (r : Step). then r (t ++ u)) (step-on F p c (waits-before (p ++ (c ∷ [])) t w′))
-      ∙ absorb (p ++ (c ∷ [])) t u w′ ∙ ap (λ (l : List ℕ). from l u) (append-snoc p c t)
+abbrev pub leftover : List ℕ → List Piece
+leftover [] = []
+leftover (b ∷ p) = unfinished (b ∷ p) ∷ []
 
-  -- And a frame.
-  read : (p : List ℕ) (c : ℕ) (t u : List ℕ) → F .Whole (p ++ (c ∷ t))
-      → from p (c ∷ (t ++ u)) ≡ whole (p ++ (c ∷ t)) ∷ from [] u
-  read p c [] u w = ap (λ (r : Step). then r u) (step-whole F p c w)
-  read p c (d ∷ t) u w =
-      let q = p ++ (c ∷ []) in
-      let w′ : F .Whole (q ++ (d ∷ t)) = rw append-snoc w in
-      ap (λ (r : Step). then r (d ∷ (t ++ u))) (step-on F p c (before-more q d t (F .laws .whole-open _ w′)))
-      ∙ read q d t u w′ ∙ ap (λ (l : List ℕ). whole l ∷ from [] u) (append-snoc p c (d ∷ t))
-
-  reads : (s u : List ℕ) → F .Whole s → from [] (s ++ u) ≡ whole s ∷ from [] u
-  reads [] u w = absurd (F .laws .empty-not-whole w)
-  reads (c ∷ t) u w = read [] c t u w
-
-  strays-first : (b : ℕ) (t : List ℕ) → ¬ F .Open (b ∷ []) → from [] (b ∷ t) ≡ stray b ∷ from [] t
-  strays-first b t n = ap (λ (r : Step). then r t) (step-over F [] b n)
-
-  breaks-first : (s : List ℕ) (c : ℕ) (t : List ℕ) → s ≢ [] → Waits F s → ¬ F .Open (s ++ (c ∷ []))
-      → from [] (s ++ (c ∷ t)) ≡ broken s ∷ from [] (c ∷ t)
-  breaks-first [] c t ne w n = absurd (ne refl)
-  breaks-first (b ∷ s) c t ne w n =
-      absorb [] (b ∷ s) (c ∷ t) w ∙ ap (λ (r : Step). then r t) (step-over F (b ∷ s) c n)
-
-  waits-last : (s : List ℕ) → s ≢ [] → Waits F s → from [] s ≡ unfinished s ∷ []
-  waits-last [] ne w = absurd (ne refl)
-  waits-last (b ∷ s) ne w = ap (λ (l : List ℕ). from [] l) (sym (append-nil (b ∷ s))) ∙ absorb [] (b ∷ s) [] w
-
-  -- A division is what the scanner makes.
-  pub scanner-complete : {s : List ℕ} {ps : List Piece} → Division F s ps → ps ≡ from [] s
-  scanner-complete is-empty = refl
-  scanner-complete (is-stray {b} {t} n d) =
-      ap (λ (l : List Piece). stray b ∷ l) (scanner-complete d) ∙ sym (strays-first b t n)
-  scanner-complete (is-broken {s} {c} {t} ne o w n d) =
-      ap (λ (l : List Piece). broken s ∷ l) (scanner-complete d) ∙ sym (breaks-first s c t ne (o, w) n)
-  scanner-complete (is-whole {s} {t} w d) =
-      ap (λ (l : List Piece). whole s ∷ l) (scanner-complete d) ∙ sym (reads s t w)
-  scanner-complete (is-unfinished {s} ne o w) = sym (waits-last s ne (o, w))
-
-  -- What the scanner makes is a division.
-  last : (p : List ℕ) → Waits F p → Division F (p ++ []) (leftover p)
-  last [] w = is-empty
-  last (b ∷ p) w = rw append-nil (is-unfinished cons≢nil (w .0) (w .1))
-
-  module _ (s : List ℕ) (ih : (p : List ℕ) → Waits F p → Division F (p ++ s) (from p s)) where
-    goes : {p : List ℕ} {c : ℕ} {r : Step} → Does F p c r → Waits F p → Division F (p ++ (c ∷ s)) (then r s)
-    goes (does-end {p} {c} x) w = rw (← append-snoc p c s) (is-whole x (ih [] (nothing-waits F)))
-    goes (does-open {p} {c} x) w = rw (← append-snoc p c s) (ih (p ++ (c ∷ [])) x)
-    goes (does-stray x) w = is-stray x (ih [] (nothing-waits F))
-    goes (does-break x d) w = is-broken cons≢nil (w .0) (w .1) x (goes d (nothing-waits F))
-
-  pub scanner-sound : (p s : List ℕ) → Waits F p → Division F (p ++ s) (from p s)
-  scanner-sound p [] w = last p w
-  scanner-sound p (c ∷ s) w = goes s (λ q. scanner-sound q s) (does F p c) w
-
-  -- Each string has exactly one division: the scanner's.
-  unfoldable pub divided : (s : List ℕ) → Divided F s
-  divided s = record {
-    pieces = from [] s;
-    division = scanner-sound [] s (nothing-waits F);
-    only = λ ps d. scanner-complete d;
-  }
-
-  pub division-unique : {s : List ℕ} {ps qs : List Piece} → Division F s ps → Division F s qs → ps ≡ qs
-  division-unique d e = scanner-complete d ∙ sym (scanner-complete e)
-
-  pub from-is : (p s : List ℕ) → from p s ≡ closed F p s ++ leftover (rest F p s)
-  from-is p s = ap (λ (l : List ℕ). from p l) (sym (append-nil s)) ∙ from-append p s []
-
-  -- From any pending string, what follows divides as the two together do.
-  pub division-behind : (p s : List ℕ) → Waits F p → Division F (p ++ s) (closed F p s ++ leftover (rest F p s))
-  division-behind p s w = rw (← from-is p s) (scanner-sound p s w)
-
-  pub division-exists : (s : List ℕ) → Division F s (pieces F s)
-  division-exists s = division-behind [] s (nothing-waits F)
+abbrev pub pieces : Framing → List ℕ → List Piece
+pieces F s = closed F [] s ++ leftover (rest F [] s)

@@ -4,8 +4,9 @@ use mathlib.Core.List.{List, [], _∷_, _++_, append-nil}
 use Prim.Native.Nat.{ℕ, suc, _+_}
 use native.Mathlib.Omega.{arith}
 use lib.ListN.{length, length-append}
-use Rattle.framing.specs.Framing.{Framing, Waits, spelled}
-use Rattle.framing.specs.Scanner.{Step, ends, opens, strays, breaks, grown, start, over, step, rest}
+use Rattle.framing.proofs.Framing.{Framing, Waits}
+use Rattle.framing.specs.Piece.{spelled}
+use Rattle.framing.proofs.Scanner.{Step, ends, opens, strays, breaks, grown, start, over, step, rest}
 
 module _ (F : Framing) where
   pub nothing-waits : Waits F []

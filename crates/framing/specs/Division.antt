@@ -1,6 +1,7 @@
--- The division of a stream into pieces: document 01, "The division of a stream", for any framing.
---   Division F s ps   the string s is cut into the pieces ps
---   Divided F s       s has one division, and no other
+-- The division of a stream into pieces: document 01, "The division of a stream", for any strings that
+-- are called open, and any that are called whole frames.
+--   Division s ps     the string s is cut into the pieces ps
+--   Divided s         s has one division, and no other
 --   EndsAt ps n f     among the pieces ps there is the whole frame f, and it ends after n bytes
 --   finished ps       the pieces but the unfinished end: those that no later byte can change
 --   cut ps            the bytes of the unfinished end, none where there is none
@@ -9,36 +10,36 @@ use mathlib.Core.Logic.{_≢_}
 use mathlib.Core.List.{List, [], _∷_, _++_}
 use Prim.Native.Nat.{ℕ}
 use lib.ListN.{length}
-use Rattle.framing.specs.Framing.{Framing, Piece, stray, broken, whole, unfinished, spelled}
+use Rattle.framing.specs.Piece.{Piece, stray, broken, whole, unfinished, spelled}
 
-pub data Division (F : Framing) : List ℕ → List Piece → Type 0 where
-  is-empty : Division F [] []
+pub data Division (Open Whole : List ℕ → Type 0) : List ℕ → List Piece → Type 0 where
+  is-empty : Division Open Whole [] []
   -- 01's stray: one byte that begins no frame
   is-stray : {b : ℕ} {t : List ℕ} {ps : List Piece}
-      → ¬ F .Open (b ∷ [])
-      → Division F t ps
-      → Division F (b ∷ t) (stray b ∷ ps)
+      → ¬ Open (b ∷ [])
+      → Division Open Whole t ps
+      → Division Open Whole (b ∷ t) (stray b ∷ ps)
   -- 01's broken start: open, not empty, not whole, and no longer open with the byte c that follows it in the stretch.
   -- That byte is not part of it: it is the first of what is divided next
   is-broken : {s : List ℕ} {c : ℕ} {t : List ℕ} {ps : List Piece}
-      → s ≢ [] → F .Open s → ¬ F .Whole s
-      → ¬ F .Open (s ++ (c ∷ []))
-      → Division F (c ∷ t) ps
-      → Division F (s ++ (c ∷ t)) (broken s ∷ ps)
+      → s ≢ [] → Open s → ¬ Whole s
+      → ¬ Open (s ++ (c ∷ []))
+      → Division Open Whole (c ∷ t) ps
+      → Division Open Whole (s ++ (c ∷ t)) (broken s ∷ ps)
   -- 01's whole frame
   is-whole : {s t : List ℕ} {ps : List Piece}
-      → F .Whole s
-      → Division F t ps
-      → Division F (s ++ t) (whole s ∷ ps)
+      → Whole s
+      → Division Open Whole t ps
+      → Division Open Whole (s ++ t) (whole s ∷ ps)
   -- 01's unfinished end: open, not empty, not whole, last in the stretch
   is-unfinished : {s : List ℕ}
-      → s ≢ [] → F .Open s → ¬ F .Whole s
-      → Division F s (unfinished s ∷ [])
+      → s ≢ [] → Open s → ¬ Whole s
+      → Division Open Whole s (unfinished s ∷ [])
 
-pub record Divided (F : Framing) (s : List ℕ) : Type 0 where
+pub record Divided (Open Whole : List ℕ → Type 0) (s : List ℕ) : Type 0 where
   pub pieces : List Piece
-  pub division : Division F s pieces
-  pub only : (ps : List Piece) → Division F s ps → ps ≡ pieces
+  pub division : Division Open Whole s pieces
+  pub only : (ps : List Piece) → Division Open Whole s ps → ps ≡ pieces
 
 pub record EndsAt (ps : List Piece) (n : ℕ) (f : List ℕ) : Type 0 where
   pub before : List Piece

@@ -5,14 +5,11 @@
 --   framed          the bytes of a whole frame
 --   waiting         the bytes of an unfinished end
 --   passed test     1 for a whole frame that passes the test: 01's frames and malformed
---   Counting K      what each piece adds to each of the tallies K
---   total C k ps    what the pieces ps add to the tally k
-use mathlib.Core.Path.{_≡_}
 use mathlib.Core.List.{List, [], _∷_}
 use mathlib.Core.Bool.{Bool, true, false}
 use Prim.Native.Nat.{ℕ, _+_}
 use lib.ListN.{length}
-use Rattle.framing.specs.Framing.{Piece, stray, broken, whole, unfinished}
+use Rattle.framing.specs.Piece.{Piece, stray, broken, whole, unfinished}
 
 abbrev pub sum : (Piece → ℕ) → List Piece → ℕ
 sum f [] = 0
@@ -51,11 +48,3 @@ passed test (stray b) = 0
 passed test (broken s) = 0
 passed test (whole s) = one-if (test s)
 passed test (unfinished s) = 0
-
--- An unfinished end adds nothing: 01, "An unfinished end forgotten by reset enters no counter".
-pub record Counting (K : Type 0) : Type 0 where
-  pub adds : K → Piece → ℕ
-  pub cut-adds-nothing : (k : K) (s : List ℕ) → adds k (unfinished s) ≡ 0
-
-abbrev pub total : {K : Type 0} → Counting K → K → List Piece → ℕ
-total C k ps = sum (C .adds k) ps

@@ -36,9 +36,10 @@ impl Gates {
         if stationary_gates > GATES {
             return MaybeGates::None;
         }
-        if block.len() < 2 + moving_gates + stationary_gates {
+        // Where the last energy is there, all are.
+        let MaybeU8::Some(_) = byte_at(block, 1 + moving_gates + stationary_gates) else {
             return MaybeGates::None;
-        }
+        };
         MaybeGates::Some(Gates {
             moving: max_moving_gate + 1,
             stationary: max_stationary_gate + 1,

@@ -1,13 +1,13 @@
 -- The reader's answer by the checks R1 to R5, one after another; and what it says of all eight.
 use mathlib.Core.Path.{_≡_, refl}
-use mathlib.Core.List.{List, [], _∷_, _++_}
-use mathlib.Core.Bool.{Bool, true, false}
+use mathlib.Core.List.{List, [], _∷_}
+use mathlib.Core.Bool.{true, false}
 use Prim.Native.Nat.{ℕ, _+_, _-_, _≤_, _<_}
 use native.Mathlib.Omega.{arith}
 use lib.ListN.{length, getD, take, drop, length-take, length-drop}
 use lib.Seq.{take-add, drop-at, drop-drop}
 use borrow.Author.Tests.{le-leb, lt-leb, leb-true, eq-eqb, ne-eqb}
-use Rattle.refusal.specs.Check.{Checks, orFailed, firstFailed}
+use Rattle.refusal.specs.Check.{Checks, firstFailed}
 use Rattle.refusal.proofs.Checks.{passes-sound, failed-before, passed-before}
 use Rattle.refusal.specs.declared.Check.{Check}
 use Rattle.refusal.specs.declared.Check.the-variants.{R1, R2, R3, R4, R5, R6, R7, R8}

@@ -2,9 +2,10 @@
 --   r1 .. r8 s              the checks, of the data s
 --   knownType t, nothingAfter t b, blockFits t b   R6 to R8, of the type t and the bytes b behind the basic ones
 --   reportChecks            R1 to R8, in this order
---   layoutChecks          R1 to R5, in this order
---   layoutAs o e          the answer by the first failed check o, if there is one
---   checkedLayout s       the reader's answer to the data s, by R1 to R5
+--   layoutChecks            R1 to R5, in this order
+--   layoutAs o e            the answer by the first failed check o, if there is one
+--   failedIn k              the check that failed first by the answer k, if one did
+--   checkedLayout s         the reader's answer to the data s, by R1 to R5
 use mathlib.Core.List.{List, [], _∷_}
 use mathlib.Core.Bool.{Bool, not, _||_}
 use Prim.Native.Nat.{ℕ, _-_}
@@ -65,6 +66,10 @@ layoutChecks = (R1, r1) ∷ (R2, r2) ∷ (R3, r3) ∷ (R4, r4) ∷ (R5, r5) ∷ 
 abbrev pub layoutAs : MaybeCheck → Layout → CheckedLayout
 layoutAs (Some c) e = Failed c
 layoutAs None e = Ok e
+
+abbrev pub failedIn : CheckedLayout → MaybeCheck
+failedIn (Failed c) = Some c
+failedIn (Ok e) = None
 
 unfoldable pub checkedLayout : List ℕ → CheckedLayout
 checkedLayout s = layoutAs (firstFailed layoutChecks s) (layoutOf s)

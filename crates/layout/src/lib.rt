@@ -6,8 +6,9 @@ use byte_string::same;
 use number::MaybeU8;
 use number::byte_at;
 use refusal::Check;
+use refusal::MaybeCheck;
 ghost use mathlib.Core.Path.{_≡_};
-ghost use Rattle.layout.specs.Check.{checkedLayout};
+ghost use Rattle.layout.specs.Check.{checkedLayout, failedIn};
 
 // Report data: the fixed head byte after the data type.
 pub const REPORT_HEAD: u8 = 0xAA;
@@ -27,6 +28,18 @@ pub enum CheckedLayout {
     Failed(Check),
 }
 
+impl CheckedLayout {
+    // The check that failed first, if one did.
+    pub fn failed(self) -> MaybeCheck
+        ensures told { λ r. ⌜ r ≡ failedIn self ⌝ }
+    {
+        match self {
+            CheckedLayout::Ok(_) => MaybeCheck::None,
+            CheckedLayout::Failed(check) => MaybeCheck::Some(check),
+        }
+    }
+}
+
 impl Layout {
     // Reads the data of a report frame, all between its length and its tail, by the checks R1 to R5 in this order.
     pub fn checked(data: &[u8]) -> CheckedLayout
@@ -41,9 +54,10 @@ impl Layout {
         if head != REPORT_HEAD {
             return CheckedLayout::Failed(Check::R2);
         }
-        if data.len() < 4 {
+        // Where the fourth byte is there, two more are.
+        let MaybeU8::Some(_) = byte_at(data, 3) else {
             return CheckedLayout::Failed(Check::R3);
-        }
+        };
         let end = data.len() - 2;
         let trailer = REPORT_TRAILER;
         if !same(&data[end..], &trailer) {

@@ -168,19 +168,20 @@ module _ (Ns : List Width) {M : Type 1} (𝓤 : URA M) (H : Heap 𝓤) (A : Atom
         (arg κs (s .now) (t .now) e y) (fit y) known
         (λ i j k n. and-then ! (get x Γ i j k n) (and-then ! (get y Γ i j k n) (no-more !)))
 
-    -- ---- all of them, with a room for each one's reference
-    pub calls-all : (fs : List (Call Ns)) (h : Cursor) (r : ℕ) (rs : Blocks (refs fs)) → drop r E ≡ env (refs fs) rs []
+    -- ---- all of them, with a room for each one's reference, before the locals G
+    pub calls-all : (fs : List (Call Ns)) (h : Cursor) (r : ℕ) (rs : Blocks (refs fs)) (G : List (Ty × ℕ))
+        → drop r E ≡ env (refs fs) rs G
         → Known 𝓤 H A C fs → (Γ : List (Item 𝓤)) {rest : Body}
         → Step (Go {0}) W (Rooms 𝓤 (refs fs) rs ∷ ‵ (froom Y′.mir lₔ 0)
         ∷ Has 𝓤 κ q l (reached h (says-all κs (s .now) (t .now) e fs)) (Having Γ)) (runs C Λ E rest post)
         (Rooms 𝓤 (refs fs) rs ∷ ‵ (froom Y′.mir lₔ 0) ∷ Has 𝓤 κ q l h (Having Γ))
         (runs C Λ E (calling c d r fs rest) post)
-    calls-all [] h r rs at-rs known Γ = step (λ then. then)
-    calls-all (f ∷ fs) h r rs at-rs known Γ = step (λ then.
+    calls-all [] h r rs G at-rs known Γ = step (λ then. then)
+    calls-all (f ∷ fs) h r rs G at-rs known Γ = step (λ then.
         split ! $ move ! (1 ∷ []) $ split ! $ move ! (2 ∷ 3 ∷ 4 ∷ 5 ∷ 6 ∷ 7 ∷ 8 ∷ 9 ∷ 10 ∷ 11 ∷ 12 ∷ 13 ∷ []) $
         calls-one f h r (rs .0) (spot-at 𝓤 H r E at-rs) (known .0) (‵ (fdies lent-ty (rs .0))
         ∷ Rooms 𝓤 (refs fs) (rs .1) ∷ Γ) $
         move ! (13 ∷ 1 ∷ 2 ∷ 3 ∷ 4 ∷ 5 ∷ 6 ∷ 7 ∷ 8 ∷ 9 ∷ 10 ∷ 11 ∷ []) $
-        calls-all fs (moved h (says κs (s .now) (t .now) e f)) (suc r) (rs .1) (next-at r E at-rs) (known .1)
+        calls-all fs (moved h (says κs (s .now) (t .now) e f)) (suc r) (rs .1) G (next-at r E at-rs) (known .1)
         (‵ (froom lent-ty (rs .0) 0) ∷ ‵ (fdies lent-ty (rs .0)) ∷ Γ) $
         move ! (13 ∷ 0 ∷ []) $ join ! $ move ! (12 ∷ 0 ∷ []) $ join ! $ then)

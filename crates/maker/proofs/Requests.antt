@@ -1,20 +1,22 @@
 -- A frame made of its parts: what the makers put in turn is the command's frame, and fits where the frame fits.
-use mathlib.Core.Path.{_≡_, refl, subst, _∙_}
+use mathlib.Core.Path.{_≡_, refl, sym, subst, _∙_}
 use mathlib.Core.List.{List, [], _∷_, _++_, append-assoc}
 use mathlib.Core.Option.{none}
 use Prim.Native.Nat.{ℕ, _+_, _≤_, _<_}
 use native.Mathlib.Omega.{arith}
 use lib.ListN.{length}
+use borrow.Author.Tests.{eq-eqb}
 use Rattle.wire.specs.Family.{header, tail, framed}
 use Rattle.wire.specs.declared.Kind.the-variants.{Command}
 use Rattle.refusal.specs.declared.Error.the-variants.{BufferTooSmall}
+use Rattle.writer.specs.declared.WriteResult.{WriteResult}
 use Rattle.writer.specs.declared.WriteResult.the-variants.{Ok, Err}
 use Rattle.writer.specs.Written.{written}
 use Rattle.writer.proofs.Writers.{Wrote, wrote-short, wrote-whole}
 use Rattle.writer.proofs.Frames.{frame-length}
 use Rattle.cursor.specs.Parts.{putAll, endAll, joined}
 use Rattle.cursor.proofs.Parts.{parts-written}
-use Rattle.maker.specs.Request.{dataOf, request, parts}
+use Rattle.maker.specs.Request.{requestData, request, parts, wholeAt}
 
 joined-append : (vs ws : List (List ℕ)) → joined (vs ++ ws) ≡ joined vs ++ joined ws
 joined-append [] ws = refl
@@ -27,7 +29,7 @@ parts-joined w vs = rw (joined-append vs (tail Command ∷ []))
 
 module _ (w : ℕ) (vs : List (List ℕ)) (out : List ℕ) (n : ℕ) (n-is : n ≡ 12 + length (joined vs)) where
   size : n ≡ length (request w vs)
-  size = omega (arith, n-is, frame-length Command (dataOf w vs))
+  size = omega (arith, n-is, frame-length Command (requestData w vs))
 
   pub made-short : length out < n → Wrote none (request w vs) out (Err (BufferTooSmall n)) out
   made-short h = wrote-short (request w vs) out n size h
@@ -40,11 +42,13 @@ module _ (w : ℕ) (vs : List (List ℕ)) (out : List ℕ) (n : ℕ) (n-is : n �
       subst (λ (f : List ℕ). length f ≤ length out → (putAll out 0 bs ≡ written out f) × (endAll out 0 bs ≡ length f))
       (parts-joined w vs) (parts-written out bs) (omega (arith, size))
 
-  pub made-whole : (h t left : List ℕ) (end : ℕ) → h ≡ header Command → t ≡ tail Command → n ≤ length out
-      → end ≡ endAll out 0 (parts h t w vs) → left ≡ putAll out 0 (parts h t w vs)
-      → Wrote none (request w vs) out (Ok end) left
-  made-whole h t left end e f fits told kept =
-      let whole = parts-whole fits in
-      let at-end = told ∙ ((λ i. endAll out 0 (parts (e i) (f i) w vs)) ∙ whole .1) in
-      wrote-whole (request w vs) out end left at-end (omega (arith, size, at-end))
-      (kept ∙ ((λ i. putAll out 0 (parts (e i) (f i) w vs)) ∙ whole .0))
+  -- The whole frame is told where it is what the maker put, and n the bytes that it was told are needed.
+  pub made-whole : (h t left : List ℕ) (r : WriteResult) → h ≡ header Command → t ≡ tail Command → n ≤ length out
+      → r ≡ wholeAt (endAll out 0 (parts h t w vs)) n → left ≡ putAll out 0 (parts h t w vs)
+      → Wrote none (request w vs) out r left
+  made-whole h t left r e f fits told kept =
+      let all = parts-whole fits in
+      let at-end = ((λ i. endAll out 0 (parts (e i) (f i) w vs)) ∙ all .1) ∙ sym size in
+      let q : r ≡ Ok n = rw (at-end, eq-eqb n n refl) at told in
+      rw q (wrote-whole (request w vs) out n left size fits
+      (kept ∙ ((λ i. putAll out 0 (parts (e i) (f i) w vs)) ∙ all .0)))

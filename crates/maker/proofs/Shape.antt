@@ -1,13 +1,14 @@
 -- The code of every maker, over the widths of its numbers and the calls, at least one, that it makes in turn:
---     fn(out: &mut [u8], needed: usize, header: &[u8], tail: &[u8], numbers ..) -> usize {
+--     fn(out: &mut [u8], needed: usize, header: &[u8], tail: &[u8], numbers ..) -> WriteResult {
 --         let mut c = Cursor::new(out, needed);
 --         c.put(header); c.u16(2); ..
---         c.pos
+--         whole(c.pos, c.needed)
 --     }
 --   Arg, Call          an argument, which is a literal or a parameter; and a call of a method (Methods.antt)
 --   says, says-all     the bytes that a call puts, and the parts that the calls put
 --   code               the MIR. Its locals are the answer, the parameters, and behind them the cursor, what `new`
---                      answers, the slice's pointer, the slice, a method's answer, and a reference for each call
+--                      answers, the slice's pointer, the slice, a method's answer, a reference for each call, and the
+--                      position and the bytes needed
 --   E                  where the locals lie
 -- Assumes nothing.
 use Prim.Native.Nat.{ℕ, suc, _^_}
@@ -26,6 +27,7 @@ use Rattle.cursor.proofs.Calls.{lent-ty}
 use Rattle.cursor.proofs.Begins.{out-ty}
 use Rattle.cursor.proofs.Cursor.new.Symbol as new
 use Rattle.cursor.proofs.Cursor.put.Symbol as put
+use Rattle.maker.proofs.whole.Symbol as whole
 use Rattle.maker.proofs.Rows.{Blocks, locals, env, past}
 use Rattle.maker.proofs.Numbers.{tys, In, index, Nums, value}
 use Rattle.maker.proofs.Methods.{One, Two}
@@ -99,6 +101,10 @@ module _ (Ns : List Width) (fs : List (Call Ns)) where
   abbrev pub at : ℕ → Place
   at i = place (behind Ns i) []
 
+  -- the number of the local that stands i behind the references
+  abbrev pub last : ℕ → ℕ
+  last i = behind Ns (suc (suc (suc (suc (suc (past (refs fs) i))))))
+
   abbrev pub body : Body
   body =
       seq (assign (at 2) (addrOf (place 1 (field 0 ∷ deref (tyInt w8) ∷ []))))
@@ -106,22 +112,24 @@ module _ (Ns : List Width) (fs : List (Call Ns)) where
       (seq (call new.name (copy (at 3) ∷ copy (place 2 []) ∷ []) (at 1))
       (seq (assign (at 0) (rvOpd (copy (at 1))))
       (calling (behind Ns 0) (behind Ns 4) (behind Ns 5) fs
-      (seq (assign (place 0 []) (rvOpd (copy (place (behind Ns 0) (field 1 ∷ []))))) return)))))
+      (seq (assign (place (last 0) []) (rvOpd (copy (place (behind Ns 0) (field 1 ∷ [])))))
+      (seq (assign (place (last 1) []) (rvOpd (copy (place (behind Ns 0) (field 2 ∷ [])))))
+      (seq (call whole.name (copy (place (last 0) []) ∷ copy (place (last 1) []) ∷ []) (place 0 [])) return)))))))
 
   abbrev pub code : Fn
   code = record {
     lifetimes = 3;
     outlives = [];
     params = past (tys Ns) 4;
-    locals = local (tyInt w64) valueLocal ∷ local out-ty valueLocal ∷ local (tyInt w64) valueLocal
+    locals = local Y′.mir valueLocal ∷ local out-ty valueLocal ∷ local (tyInt w64) valueLocal
         ∷ local header-ty valueLocal ∷ local tail-ty valueLocal
         ∷ locals (tys Ns) (local (T′.mir erased) memorySlot ∷ local (T′.mir erased) valueLocal
         ∷ local (tyRef erased mut (tyInt w8)) valueLocal ∷ local bytes-ty valueLocal ∷ local Y′.mir valueLocal
-        ∷ locals (refs fs) []);
+        ∷ locals (refs fs) (local (tyInt w64) valueLocal ∷ local (tyInt w64) valueLocal ∷ []));
     body = body;
   }
 
 -- ---- where they lie, before the locals F behind the parameters
 module _ (Ns : List Width) (l₀ l₁ l₂ l₃ l₄ : ℕ) (bs : Blocks (tys Ns)) (F : List (Ty × ℕ)) where
   abbrev pub E : List (Ty × ℕ)
-  E = (tyInt w64, l₀) ∷ (out-ty, l₁) ∷ (tyInt w64, l₂) ∷ (header-ty, l₃) ∷ (tail-ty, l₄) ∷ env (tys Ns) bs F
+  E = (Y′.mir, l₀) ∷ (out-ty, l₁) ∷ (tyInt w64, l₂) ∷ (header-ty, l₃) ∷ (tail-ty, l₄) ∷ env (tys Ns) bs F

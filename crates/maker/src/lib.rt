@@ -1,7 +1,8 @@
 // The frames of commands, by the three kinds of value, written through a cursor that holds the caller's slice.
 //
 // One function measures, and a straight maker writes: it is called where there is room for the whole frame, so that no
-// put is refused.
+// put is refused. A maker drops what each put answers, and answers by the position at its end: a refused put leaves the
+// position, so that the whole frame is told only where as many bytes were put as are needed.
 use cursor::Cursor;
 use refusal::Error;
 use wire::FRAMING;
@@ -14,7 +15,7 @@ ghost use lib.ListN.{length};
 ghost use Rattle.number.specs.Number.{leBytes};
 ghost use Rattle.writer.specs.Written.{answerOf, bufferAfter};
 ghost use Rattle.cursor.specs.Parts.{putAll, endAll};
-ghost use Rattle.maker.specs.Request.{recordBytes, request, parts};
+ghost use Rattle.maker.specs.Request.{recordBytes, request, parts, wholeAt};
 
 // Writes the frame of a command without a value. Refuses with 4 a buffer shorter than the frame, here and below.
 pub fn put_bare(out: &mut [u8], word: u16) -> WriteResult
@@ -27,8 +28,7 @@ pub fn put_bare(out: &mut [u8], word: u16) -> WriteResult
     }
     let header = Kind::Command.header();
     let tail = Kind::Command.tail();
-    let end = make_bare(out, needed, &header, &tail, word);
-    WriteResult::Ok(end)
+    make_bare(out, needed, &header, &tail, word)
 }
 
 // Writes the frame of a command with a two-byte value.
@@ -42,8 +42,7 @@ pub fn put_number(out: &mut [u8], word: u16, v: u16) -> WriteResult
     }
     let header = Kind::Command.header();
     let tail = Kind::Command.tail();
-    let end = make_number(out, needed, &header, &tail, word, v);
-    WriteResult::Ok(end)
+    make_number(out, needed, &header, &tail, word, v)
 }
 
 // Writes the frame of a command with three records, numbered 0, 1, 2.
@@ -59,13 +58,24 @@ pub fn put_records(out: &mut [u8], word: u16, a: u32, b: u32, c: u32) -> WriteRe
     }
     let header = Kind::Command.header();
     let tail = Kind::Command.tail();
-    let end = make_records(out, needed, &header, &tail, word, a, b, c);
-    WriteResult::Ok(end)
+    make_records(out, needed, &header, &tail, word, a, b, c)
 }
 
-// Puts the frame's parts in turn, each where it fits, and answers the place behind them.
-fn make_bare(out: &mut [u8], needed: usize, header: &[u8], tail: &[u8], word: u16) -> usize
-    ensures told { λ r. ⌜ r ≡ endAll (now (out .entry)) 0 (parts (now (header .entry)) (now (tail .entry)) word []) ⌝ }
+// What is answered at the position `pos`, where `needed` bytes are needed in all: the bytes written, or 4.
+fn whole(pos: usize, needed: usize) -> WriteResult
+    ensures told { λ r. ⌜ r ≡ wholeAt pos needed ⌝ }
+{
+    if pos == needed {
+        WriteResult::Ok(pos)
+    } else {
+        WriteResult::Err(Error::BufferTooSmall { needed })
+    }
+}
+
+// Puts the frame's parts in turn, each where it fits.
+fn make_bare(out: &mut [u8], needed: usize, header: &[u8], tail: &[u8], word: u16) -> WriteResult
+    ensures told { λ r. ⌜ r ≡ wholeAt (endAll (now (out .entry)) 0 (parts (now (header .entry)) (now (tail .entry))
+        word [])) needed ⌝ }
     ensures left { λ _. ⌜ now (out .exit) ≡ putAll (now (out .entry)) 0
         (parts (now (header .entry)) (now (tail .entry)) word []) ⌝ }
 {
@@ -74,7 +84,7 @@ fn make_bare(out: &mut [u8], needed: usize, header: &[u8], tail: &[u8], word: u1
     c.u16(2);
     c.u16(word);
     c.put(tail);
-    c.pos
+    whole(c.pos, c.needed)
 }
 
 // The same, with a two-byte value behind the word.
@@ -85,9 +95,9 @@ fn make_number(
     tail: &[u8],
     word: u16,
     v: u16,
-) -> usize
-    ensures told { λ r. ⌜ r ≡ endAll (now (out .entry)) 0
-        (parts (now (header .entry)) (now (tail .entry)) word (leBytes 2 v ∷ [])) ⌝ }
+) -> WriteResult
+    ensures told { λ r. ⌜ r ≡ wholeAt (endAll (now (out .entry)) 0
+        (parts (now (header .entry)) (now (tail .entry)) word (leBytes 2 v ∷ []))) needed ⌝ }
     ensures left { λ _. ⌜ now (out .exit) ≡ putAll (now (out .entry)) 0
         (parts (now (header .entry)) (now (tail .entry)) word (leBytes 2 v ∷ [])) ⌝ }
 {
@@ -97,7 +107,7 @@ fn make_number(
     c.u16(word);
     c.u16(v);
     c.put(tail);
-    c.pos
+    whole(c.pos, c.needed)
 }
 
 // The same, with three records behind the word.
@@ -110,9 +120,9 @@ fn make_records(
     a: u32,
     b: u32,
     c: u32,
-) -> usize
-    ensures told { λ r. ⌜ r ≡ endAll (now (out .entry)) 0 (parts (now (header .entry)) (now (tail .entry)) word
-        (recordBytes 0 a ∷ recordBytes 1 b ∷ recordBytes 2 c ∷ [])) ⌝ }
+) -> WriteResult
+    ensures told { λ r. ⌜ r ≡ wholeAt (endAll (now (out .entry)) 0 (parts (now (header .entry)) (now (tail .entry)) word
+        (recordBytes 0 a ∷ recordBytes 1 b ∷ recordBytes 2 c ∷ []))) needed ⌝ }
     ensures left { λ _. ⌜ now (out .exit) ≡ putAll (now (out .entry)) 0 (parts (now (header .entry)) (now (tail .entry))
         word (recordBytes 0 a ∷ recordBytes 1 b ∷ recordBytes 2 c ∷ [])) ⌝ }
 {
@@ -124,5 +134,5 @@ fn make_records(
     w.record(1, b);
     w.record(2, c);
     w.put(tail);
-    w.pos
+    whole(w.pos, w.needed)
 }

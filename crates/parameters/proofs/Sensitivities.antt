@@ -1,5 +1,5 @@
--- A parameters payload: what it is read as, by its first four bytes and by whether its seconds are there. And the
--- outcome of an answer.
+-- A parameters payload: what it is read as, by its first four bytes and by whether its seconds are there. And what an
+-- answer returns.
 use mathlib.Core.Path.{_≡_, refl, sym, ap}
 use mathlib.Core.List.{List}
 use mathlib.Core.Bool.{Bool, true, false, _&&_, and-false}
@@ -10,6 +10,7 @@ use lib.Dec.{leb, eqb}
 use lib.ListN.{length, getD, take, drop}
 use borrow.Author.Tests.{le-leb, lt-leb, leb-false}
 use Rattle.byte_string.specs.Prefix.{padded}
+use Rattle.refusal.specs.Refusal.{returned}
 use Rattle.refusal.specs.declared.Error.the-variants.{InvalidFormat}
 use Rattle.refusal.specs.declared.Outcome.{Outcome}
 use Rattle.refusal.specs.declared.Outcome.the-variants.{Ok, Err}
@@ -22,12 +23,14 @@ use Rattle.fixed.specs.declared.Fixed.{Fixed}
 use Rattle.fixed.specs.declared.MaybeFixed.the-variants.{Some, None}
 use Rattle.fixed.proofs.Beginnings.{fixed-some, fixed-none}
 use Rattle.parameters.specs.Parameters.{secondsAt, parametersFits, parametersReply, parametersAs, noParameters}
+use Rattle.parameters.specs.Parameters.{returnedParameters}
 use Rattle.parameters.specs.declared.Parameters.{Parameters}
 
--- The outcome of an answer is the one that it was made of.
-pub parameters-outcome : (o : Outcome) (v : Parameters) → parametersAs o v .outcome ≡ o
-parameters-outcome Ok v = refl
-parameters-outcome (Err e) v = refl
+-- An answer returns what its outcome says.
+pub parameters-returned : (o : Outcome) (v : Parameters)
+    → returnedParameters (parametersAs o v) ≡ returned noParameters o v
+parameters-returned Ok v = refl
+parameters-returned (Err e) v = refl
 
 -- The payload p is refused.
 abbrev pub Refused : List ℕ → Type 0

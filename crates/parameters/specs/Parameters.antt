@@ -1,7 +1,7 @@
--- The reply that tells the parameters, of document 01, point 3: what its payload holds, the reply, and the answer for
--- an outcome and a value, every field 0 beside a refusal.
+-- The reply that tells the parameters, of document 01, point 3: what its payload holds, the reply, the value that is
+-- all 0, the answer for an outcome and a value, and the number and the values that an answer returns.
 --   gatesIn p, stationaryAt p, secondsAt p   of a parameters payload p: how many gates, and where its parts start
---   parametersFits, parametersOf, parametersReply, parametersAs
+--   parametersFits, parametersOf, parametersReply, noParameters, parametersAs, returnedParameters
 --   gatesOf v      how many gates the parameters v have, at most 9
 use mathlib.Core.List.{List}
 use mathlib.Core.Bool.{Bool, _&&_}
@@ -10,6 +10,7 @@ use lib.Dec.{leb, eqb}
 use lib.ListN.{length, getD, take, drop, replicate}
 use Rattle.number.specs.Number.{little}
 use Rattle.byte_string.specs.Prefix.{padded}
+use Rattle.refusal.specs.Refusal.{Returned, beside}
 use Rattle.refusal.specs.declared.Outcome.{Outcome}
 use Rattle.refusal.specs.declared.Outcome.the-variants.{Ok, Err}
 use Rattle.reply.specs.Reply.{Reply}
@@ -57,6 +58,9 @@ noParameters = record {
 abbrev pub parametersAs : Outcome → Parameters → ParametersResult
 parametersAs Ok v = record { outcome = Ok; parameters = v }
 parametersAs (Err e) v = record { outcome = Err e; parameters = noParameters }
+
+abbrev pub returnedParameters : ParametersResult → Returned Parameters
+returnedParameters r = beside (r .outcome) (r .parameters)
 
 -- "the array and its valid count, at most 9"
 abbrev pub gatesOf : Parameters → ℕ

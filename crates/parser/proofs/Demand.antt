@@ -1,112 +1,150 @@
--- Demand 3, from a parser in which nothing is pending: the theory of the stream, for this engine.
-use mathlib.Core.Path.{_≡_, refl, sym, ap, _∙_}
+-- Demand 3 from any parser, and what follows from it: the theory of the stream, for this engine.
+use mathlib.Core.Path.{_≡_, refl, sym, ap, subst, _∙_}
 use mathlib.Core.List.{List, []}
-use mathlib.Core.Bool.{true, false}
+use mathlib.Core.Bool.{true}
 use Prim.Native.Nat.{ℕ, _+_, _<_}
 use native.Mathlib.Omega.{arith}
+use Rattle.limit.specs.Length.{linkMost}
 use Rattle.framing.specs.Tally.{sum, framed}
 use Rattle.engine.specs.Bytes.{Every}
 use Rattle.engine.specs.Calls.{Call, ByteCall, takenBy}
-use Rattle.engine.specs.Correct.{Correct}
-use Rattle.engine.proofs.Correct.{correct}
-use Rattle.engine.proofs.Accounts.{accounts}
+use Rattle.engine.specs.Fulfilled.{Fulfilled}
+use Rattle.engine.proofs.Fulfilled.{fulfilled, final-valid}
+use Rattle.engine.proofs.Accounts.{accounts, frames-delivered}
+use Rattle.engine.proofs.Empty.{empty-slice}
 use Rattle.engine.proofs.Same.{same}
-use Rattle.stream.specs.Link.{link}
-use Rattle.stream.specs.Deliver.{frames, resyncs, dropped, malformed}
-use Rattle.stream.specs.Decoding.{decoding, counting}
+use Rattle.engine.proofs.Resumed.{resumed}
+use Rattle.stream.specs.Deliver.{dropped, frames}
+use Rattle.stream.specs.Protocol.{ld2410}
+use Rattle.stream.proofs.Link.{link}
+use Rattle.stream.proofs.Decoding.{decoding, counting}
+use Rattle.stream.proofs.Linked.{tested, linked, unlinked}
 use Rattle.scan.specs.Scan.{hunting, inOrder, settled}
+use Rattle.scan.specs.Stands.{OutOfRange, pendingOf}
 use Rattle.scan.specs.declared.Scan.{Scan}
 use Rattle.stats.specs.declared.Stats.{Stats}
 use Rattle.step.specs.Slice.{runOf}
-use Rattle.scan.proofs.Orders.{settled-same, settled-out}
-use Rattle.parser.specs.Feed.{fresh, feedOf, feedSliceOf}
+use Rattle.scan.proofs.Orders.{settled-same}
+use Rattle.scan.proofs.Settled.{settled-right}
 use Rattle.feeding.specs.Moved.{movedOf, bufOf, sliceMovedOf, sliceBufOf}
-use Rattle.parser.specs.Feed.{resetOf, unfinishedOf}
-use Rattle.parser.specs.Engine.{pendingBy, engine}
-use Rattle.parser.specs.Claims.{did, left, FromHere, Accounted, Determined, ResetFirst}
+use Rattle.parser.specs.Feed.{fresh, feedOf, feedSliceOf, resetOf, unfinishedOf}
+use Rattle.parser.specs.Engine.{counterIn, pendingBy, engine}
+use Rattle.parser.specs.Claims.{did, left, Demand3, FromHere, Stands, FromAny, Accounted, Determined, ResetFirst}
 use Rattle.parser.specs.declared.Parser.{Parser}
 use Rattle.parser.proofs.Feeding.{Valid}
 use Rattle.parser.proofs.Engines.{lawful, hunting-pending}
 
-small : 54 < 65536
+small : linkMost < 65536
 small = omega arith
 
-module _ (p : Parser) (v : Valid 54 p) (nothing : pendingBy 54 p ≡ []) where
-  right : (calls : List Call) → Every ByteCall calls → Correct (link 54) decoding counting (engine 54) p calls
-  right calls h = correct (link 54) decoding counting (engine 54) (lawful 54 small) p v nothing calls h
+-- What a scan is settled to says what the parser stands for.
+hunting-nothing : (buf : List ℕ) → pendingOf hunting buf ≡ []
+unfolding pendingOf
+hunting-nothing buf = refl
 
-  pub fulfilled : FromHere p
-  fulfilled calls h =
-      let x = right calls h in
-      record {
-        divide = x .divide;
-        glued = x .glued;
-        apart = x .apart;
-        right = x .right;
-        delivered = x .delivered;
-        frames = x .counted frames;
-        resyncs = x .counted resyncs;
-        dropped = x .counted dropped;
-        malformed = x .counted malformed;
-        unfinished = x .unfinished;
-      }
+stands : (x : Parser) → Stands x (pendingBy linkMost x)
+stands x =
+    let s = settled-right linkMost (x .scan) in
+    record {
+      out = λ o. ap (λ (c : Scan). pendingOf c (x .buf)) (s .out o) ∙ hunting-nothing (x .buf);
+      inside = λ n. ap (λ (c : Scan). pendingOf c (x .buf)) (s .inside n);
+    }
 
-  pub determined : Determined p
-  determined E s calls h c most start =
-      same (link 54) decoding counting E (engine 54) s p calls c (right calls h) most start
+module _ (x : Parser) (v : Valid linkMost x) where
+  abbrev pending : List ℕ
+  pending = pendingBy linkMost x
 
-  pub accounted : p .stats .dropped ≡ 0 → Accounted p
-  accounted start calls h goes less ps d =
-      let x = right calls h in
-      accounts (link 54) decoding counting (engine 54) dropped (λ q. refl) p calls x goes start less
-      ∙ ap (λ qs. left p calls .stats .dropped + unfinishedOf 54 (left p calls) + sum framed qs)
-      (sym (x .divide (takenBy (did p calls)) .only ps d))
+  -- The theory of the stream, over the tests, for this engine.
+  right : (calls : List Call) → Every ByteCall calls → Fulfilled (tested linkMost) (engine linkMost) pending x calls
+  right calls h = fulfilled (link linkMost) decoding counting (engine linkMost) (lawful linkMost small) x v calls h
+
+  demand : Demand3 pending x
+  demand calls h = linked linkMost (engine linkMost) pending x calls (right calls h)
+
+  determined-any : Determined pending x
+  determined-any E s calls h c most start = same (link linkMost) decoding counting E (engine linkMost) pending s x calls
+      (unlinked linkMost E pending s calls c) (right calls h) most start
+
+  left-valid : (calls : List Call) → Every ByteCall calls → Valid linkMost (left x calls)
+  left-valid calls h =
+      final-valid (link linkMost) decoding counting (engine linkMost) (lawful linkMost small) x calls v h
+
+  module _ (nothing : pending ≡ []) where
+    pub from-here : FromHere x
+    from-here = subst (λ (p : List ℕ). Demand3 p x) nothing demand
+
+    pub determined : Determined [] x
+    determined = subst (λ (p : List ℕ). Determined p x) nothing determined-any
+
+    pub accounted : x .stats .dropped ≡ 0 → Accounted x
+    accounted start calls h goes less ps d =
+        let y = from-here calls h in
+        accounts (engine linkMost) (ld2410 linkMost) dropped (λ q. refl) [] x calls y goes start less
+        ∙ ap (λ qs. left x calls .stats .dropped + unfinishedOf linkMost (left x calls) + sum framed qs)
+        (sym (y .divide (takenBy (did x calls)) .only ps d))
+
+pub from-any : (x : Parser) → Valid linkMost x → FromAny x
+from-any x v = record {
+  stands = stands x;
+  fulfilled = demand x v;
+  determined = determined-any x v;
+  frames = λ calls h. frames-delivered (engine linkMost) (ld2410 linkMost) frames (λ q. refl) (pending x v) x calls
+      (demand x v calls h);
+  empty = λ calls h before behind k a e. empty-slice (ld2410 linkMost) (engine linkMost) (pending x v) x calls
+      (demand x v calls h) before k a behind e;
+  resumed = λ calls more h g y d e st.
+      let z = left x calls in
+      resumed (link linkMost) decoding counting (engine linkMost) (engine linkMost) x y calls more
+      (right z (left-valid x v calls h) more g)
+      (unlinked linkMost (engine linkMost) (pendingBy linkMost y) y more (d more g))
+      refl e (λ k. ap (counterIn k) (sym st));
+}
 
 -- A parser just reset has nothing pending, and a fresh one is as if it were.
-pub reset-valid : (p : Parser) → Valid 54 p → Valid 54 (resetOf p)
+pub reset-valid : (p : Parser) → Valid linkMost p → Valid linkMost (resetOf p)
 reset-valid p v = record { room = v .room; capped = v .capped }
 
-pub fresh-valid : Valid 54 fresh
+pub fresh-valid : Valid linkMost fresh
 fresh-valid = record {
   room = omega arith;
   capped = record { frames = omega arith; resyncs = omega arith; dropped = omega arith; malformed = omega arith };
 }
 
-nothing-in : (p : Parser) → pendingBy 54 (resetOf p) ≡ []
-nothing-in p = hunting-pending 54 small p
+nothing-in : (p : Parser) → pendingBy linkMost (resetOf p) ≡ []
+nothing-in p = hunting-pending linkMost small p
 
-pub fresh-claims : FromHere fresh × (Accounted fresh × Determined fresh)
+pub fresh-claims : FromHere fresh × (Accounted fresh × Determined [] fresh)
 fresh-claims = (
-  fulfilled fresh fresh-valid (nothing-in fresh),
+  from-here fresh fresh-valid (nothing-in fresh),
   (
     accounted fresh fresh-valid (nothing-in fresh) refl,
     determined fresh fresh-valid (nothing-in fresh),
   ),
 )
 
-pub reset-claims : (p : Parser) → Valid 54 p → FromHere (resetOf p) × Determined (resetOf p)
+pub reset-claims : (p : Parser) → Valid linkMost p → FromHere (resetOf p) × Determined [] (resetOf p)
 reset-claims p v =
     let w = reset-valid p v in
-    (fulfilled (resetOf p) w (nothing-in p), determined (resetOf p) w (nothing-in p))
+    (from-here (resetOf p) w (nothing-in p), determined (resetOf p) w (nothing-in p))
 
 -- A parser out of range is fed as what a reset leaves of it.
-hunting-order : inOrder 54 hunting ≡ true
+hunting-order : inOrder linkMost hunting ≡ true
 unfolding inOrder
 hunting-order = refl
 
-module _ (c : Scan) (e : inOrder 54 c ≡ false) (st : Stats) (buf : List ℕ) where
-  settled-as : settled 54 c ≡ settled 54 hunting
-  settled-as = settled-out 54 c e ∙ sym (settled-same 54 hunting hunting-order)
+module _ (c : Scan) (o : OutOfRange linkMost c) (st : Stats) (buf : List ℕ) where
+  settled-as : settled linkMost c ≡ settled linkMost hunting
+  settled-as = settled-right linkMost c .out o ∙ sym (settled-same linkMost hunting hunting-order)
 
-  byte-first : (b : ℕ) → (movedOf 54 c st buf b ≡ movedOf 54 hunting st buf b)
-      × (bufOf 54 c buf b ≡ bufOf 54 hunting buf b)
+  byte-first : (b : ℕ) → (movedOf linkMost c st buf b ≡ movedOf linkMost hunting st buf b)
+      × (bufOf linkMost c buf b ≡ bufOf linkMost hunting buf b)
   unfolding movedOf bufOf
   byte-first b = (rw settled-as, rw settled-as)
 
-  slice-first : (bs : List ℕ) → (sliceMovedOf 54 c st buf bs ≡ sliceMovedOf 54 hunting st buf bs)
-      × (sliceBufOf 54 c st buf bs ≡ sliceBufOf 54 hunting st buf bs)
+  slice-first : (bs : List ℕ) → (sliceMovedOf linkMost c st buf bs ≡ sliceMovedOf linkMost hunting st buf bs)
+      × (sliceBufOf linkMost c st buf bs ≡ sliceBufOf linkMost hunting st buf bs)
   unfolding sliceMovedOf sliceBufOf
-  slice-first bs = (rw settled-as, ap (λ x. runOf 54 x st buf bs .buf) settled-as)
+  slice-first bs = (rw settled-as, ap (λ x. runOf linkMost x st buf bs .buf) settled-as)
 
 pub reset-first : (p : Parser) → ResetFirst p (resetOf p)
 unfolding feedOf feedSliceOf

@@ -13,13 +13,13 @@ use Rattle.number.proofs.Counters.{bumped-nil}
 use Rattle.wire.specs.Family.{header, tail, framed}
 use Rattle.wire.specs.declared.Kind.{Kind}
 use Rattle.frame.specs.Frame.{decoded}
-use Rattle.framing.specs.Framing.{Framing}
+use Rattle.framing.proofs.Framing.{Framing}
 use Rattle.framing.specs.Tally.{sum, one-if, passed}
-use Rattle.framing.specs.Scanner as Scanner
+use Rattle.framing.proofs.Scanner as Scanner
 use Rattle.framing.proofs.View.{Does, does-end, does-open, does-stray, does-break, does}
-use Rattle.engine.specs.Lawful.{answerAt}
+use Rattle.engine.proofs.Lawful.{answerAt}
 use Rattle.stream.specs.Deliver.{holds, decodes, delivered, frames, resyncs, dropped, malformed}
-use Rattle.stream.specs.Decoding.{decoding}
+use Rattle.stream.proofs.Decoding.{decoding}
 use Rattle.stream.proofs.Delivered.{decodes-framed, delivered-framed, decoded-failed}
 use Rattle.stats.specs.Start.{counted}
 use Rattle.feeding.specs.Moved.{emitted}

@@ -3,16 +3,17 @@ use mathlib.Core.Path.{_≡_, refl, sym, ap, subst, _∙_}
 use mathlib.Core.List.{List, [], _∷_}
 use Prim.Native.Nat.{ℕ, _+_, _≤_, _<_, min}
 use Rattle.number.specs.Counter.{counterMost}
-use Rattle.framing.specs.Tally.{total}
-use Rattle.framing.specs.Scanner as Scanner
+use Rattle.framing.proofs.Counting.{total}
+use Rattle.framing.proofs.Scanner as Scanner
 use Rattle.engine.specs.Bytes.{Byte, Bytes}
 use Rattle.engine.specs.Engine.{Sliced}
-use Rattle.engine.specs.Lawful.{answerAt, feedUntil, Lawful}
+use Rattle.engine.proofs.Lawful.{answerAt, feedUntil, Lawful}
 use Rattle.engine.proofs.Until.{until-invariant}
-use Rattle.stream.specs.Link.{link}
+use Rattle.stream.proofs.Link.{link}
 use Rattle.stream.specs.Deliver.{Answer, Counter, frames, resyncs, dropped, malformed}
-use Rattle.stream.specs.Decoding.{decoding, counting}
-use Rattle.scan.specs.Scan.{inOrder, settled, pendingOf, unfinishedBy}
+use Rattle.stream.proofs.Decoding.{decoding, counting}
+use Rattle.scan.specs.Scan.{inOrder, settled, unfinishedBy}
+use Rattle.scan.specs.Stands.{pendingOf}
 use Rattle.step.specs.Step.{stepOf}
 use Rattle.feeding.specs.Moved.{bufOf, movedOf, sliceBufOf, sliceMovedOf}
 use Rattle.parser.specs.Feed.{put, feedOf, feedSliceOf, resetOf}

@@ -7,13 +7,15 @@ use native.Mathlib.Omega.{arith}
 use lib.ListN.{length, length-set}
 use Rattle.number.specs.Counter.{counterMost, bumped}
 use Rattle.number.proofs.Counters.{bumped-most}
-use Rattle.framing.specs.Tally.{sum, resynced, lost, total}
-use Rattle.framing.specs.Scanner as Scanner
-use Rattle.engine.specs.Lawful.{answerAt}
-use Rattle.stream.specs.Link.{link}
+use Rattle.framing.specs.Tally.{sum, resynced, lost}
+use Rattle.framing.proofs.Counting.{total}
+use Rattle.framing.proofs.Scanner as Scanner
+use Rattle.engine.proofs.Lawful.{answerAt}
+use Rattle.stream.proofs.Link.{link}
 use Rattle.stream.specs.Deliver.{decodes, Counter, frames, resyncs, dropped, malformed}
-use Rattle.stream.specs.Decoding.{decoding, counting}
-use Rattle.scan.specs.Scan.{inOrder, pendingOf}
+use Rattle.stream.proofs.Decoding.{decoding, counting}
+use Rattle.scan.specs.Scan.{inOrder}
+use Rattle.scan.specs.Stands.{pendingOf}
 use Rattle.step.specs.Step.{stepOf, storedIn, stored}
 use Rattle.feeding.specs.Moved.{emitted}
 use Rattle.parser.specs.Feed.{put}

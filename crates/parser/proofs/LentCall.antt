@@ -24,7 +24,6 @@ use contract.Lifetimes.{Lfts, Shares, toks}
 use contract.Monad.{fact}
 use types.Kit.{Item, Given, mean, ‵, raw, _⊛_, ⋆, some, _$_, _∵_, !, qed, move, keep, use1}
 use types.Kit.{split, join, fsplit, fjoin, fjoin3, feqI, suffices, show, done}
-use types.Run.{returns}
 use types.SemTy.{Body}
 use denote.RattleType.{owns}
 use denote.Laws.{Is}
@@ -35,7 +34,7 @@ use denote.Steps.{owned, nothing}
 use denote.Struct.Laws as LL
 use denote.Triple.Statement.{Contract}
 use denote.Triple.Clauses.{Ended, Clauses, ensured, lasts}
-use denote.Triple.Walked.{says, Stays, stay-ref, stay-dropped, walkOf, ends-at}
+use denote.Triple.Walked.{Stays, stay-ref, stay-dropped, walkOf, ends-at}
 use denote.Exit.{yes}
 use Rattle.parser.specs.Feed.{put}
 use Rattle.parser.specs.declared.Parser.{Parser}
@@ -50,7 +49,7 @@ use Rattle.parser.proofs.Memory.{is-scan, is-stats, self}
 use Rattle.parser.proofs.Field.{ref, Borrow}
 use Rattle.parser.proofs.Extra.{Extra}
 use Rattle.parser.proofs.Answers.{Answer, Moves}
-use Rattle.parser.proofs.Contracts.{step-ended, lent-ended, step-clauses, lent-clauses}
+use Rattle.parser.proofs.Contracts.{step-ended, lent-ended, step-clauses, lent-clauses, holds, two-hold}
 use Rattle.parser.proofs.Carried.{contractOf}
 
 module _ {m : ℕ} {Z : Type 0} (X : Extra m Z) (B : Answer) (O : Moves B) where
@@ -94,7 +93,8 @@ module _ {m : ℕ} {Z : Type 0} (X : Extra m Z) (B : Answer) (O : Moves B) where
   abbrev pub final : O .row .Denot → List ℕ → Parser
   final r ys = put ys (O .scan r) (O .stats r)
 
-  module _ (S : Scan → Stats → List ℕ → Z → O .row .Denot) (L : Scan → Stats → List ℕ → Z → List ℕ) where
+  module _ (S : Scan → Stats → List ℕ → Z → O .row .Denot) (L : Scan → Stats → List ℕ → Z → List ℕ)
+      (Q : Parser → Type 0) where
     -- what g returns, and leaves in the buffer, of a parser and what is said of e
     abbrev pub Of : Parser → Z → O .row .Denot
     Of h z = S (h .scan) (h .stats) (h .buf) z
@@ -106,7 +106,7 @@ module _ {m : ℕ} {Z : Type 0} (X : Extra m Z) (B : Answer) (O : Moves B) where
     g-clauses 𝓤 = step-clauses X B 𝓤 O S L
 
     abbrev pub f-clauses : {M : Type 1} (𝓤 : URA M) → Clauses 𝓤 f-ended
-    f-clauses 𝓤 = lent-clauses X B 𝓤 (λ h z. O .answer (Of h z)) (λ h z. final (Of h z) (Left h z))
+    f-clauses 𝓤 = lent-clauses X B 𝓤 Q (λ h z. O .answer (Of h z)) (λ h z. final (Of h z) (Left h z))
 
     module _ {M : Type 1} (𝓤 : URA M) (H : Heap 𝓤) (A : Atoms 𝓤) (W : Given 𝓤 H A) where
       abbrev pub Callee : Contract 𝓤
@@ -139,12 +139,12 @@ module _ {m : ℕ} {Z : Type 0} (X : Extra m Z) (B : Answer) (O : Moves B) where
 
         pub exits : (r : O .row .Denot) (ys : List ℕ) → r ≡ Of h (X .beside .say (κ, κs) e)
             → ys ≡ Left h (X .beside .say (κ, κs) e) → Is (B .row) (O .answer r) (B .val (O .answer r) ∷ [])
-            → ent 𝓤 (⋆ 𝓤 H A (Closed-at (final r ys))) (Post (B .val (O .answer r)))
-        exits r ys eq l is =
+            → Q h → ent 𝓤 (⋆ 𝓤 H A (Closed-at (final r ys))) (Post (B .val (O .answer r)))
+        exits r ys eq l is so =
             qed W (Closed-at (final r ys)) ∵
             suffices ! _ (ends-at 𝓤 H A f-ended stayed (f-clauses 𝓤) W (((κ, κs), (q, qs), tt, given, at), tt)
             (B .val (O .answer r)) (O .answer r) (final r ys, (X .beside .last (κ, κs) e, tt)) (tt, (tt, tt))) $
-            says ! (ap (O .answer) eq, (λ i. final (eq i) (l i))) $
+            holds ! (two-hold 𝓤 (ap (O .answer) eq, (λ i. final (eq i) (l i))) so) $
             feqI ! (List Val) (vptr b o ∷ []) (vptr b o ∷ []) refl $ fjoin3 ! $ nothing ! $ nothing ! $ fjoin ! $
             move ! (1 ∷ 0 ∷ []) $ fjoin ! $ owned ! (B .row) (Is (B .row)) (B .makes 𝓤 H A) (O .answer r) _ is $
             move ! (1 ∷ 0 ∷ []) $ join ! $ move ! (1 ∷ 2 ∷ []) $ join ! $ done !

@@ -41,6 +41,7 @@ use Rattle.scan.proofs.Scan as C
 use Rattle.scan.proofs.Scan.Laws as C′
 use Rattle.stats.proofs.Stats as N
 use Rattle.stats.proofs.Stats.Laws as N′
+use Rattle.limit.specs.Length.{linkMost}
 use Rattle.parser.proofs.Feeding.{Valid}
 
 abbrev pub P : RattleType
@@ -88,7 +89,7 @@ pub is-put : (ys : List ℕ) (s : Scan) (t : Stats) → Is Buf (map (λ v. v) ys
     → Is C.the-row s (scan-val s ∷ []) → Is N.the-row t (stats-val t ∷ []) → Is P (put ys s t) (vals (put ys s t))
 is-put ys s t bs ss ts = LL.owes T.the-type T′.the-laws (put ys s t) (bs, (ss, (ts, tt)))
 
-pub valid : (h : Parser) → Is P h (vals h) → Valid 54 h
+pub valid : (h : Parser) → Is P h (vals h) → Valid linkMost h
 valid h is =
     let n = LL.owed N.the-type N′.the-laws (h .stats) _ (is-stats h is) in
     record {

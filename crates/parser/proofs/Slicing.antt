@@ -5,10 +5,10 @@ use mathlib.Core.Bool.{true}
 use Prim.Native.Nat.{ℕ, suc, _<_}
 use Rattle.engine.specs.Bytes.{Bytes}
 use Rattle.engine.specs.Engine.{Sliced}
-use Rattle.engine.specs.Lawful.{stopIf, feedUntil}
-use Rattle.stream.specs.Link.{link}
+use Rattle.engine.proofs.Lawful.{stopIf, feedUntil}
+use Rattle.stream.proofs.Link.{link}
 use Rattle.stream.specs.Deliver.{Answer}
-use Rattle.stream.specs.Decoding.{decoding}
+use Rattle.stream.proofs.Decoding.{decoding}
 use Rattle.scan.specs.Scan.{inOrder}
 use Rattle.step.specs.Step.{stepOf, stored}
 use Rattle.step.specs.Slice.{Run, runAt, thenRun, runOf}

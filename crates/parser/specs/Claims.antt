@@ -1,88 +1,85 @@
 -- Demand 3 of document 01's customer, for the parser of this crate.
---   Fulfilled p calls   the claim, for any list of calls that feed a byte, feed a slice or reset, the first on the
---                       parser p, each other on the parser that the one before left
---   FromHere p          it holds of every list of calls that pass bytes
---   Accounted p         from p, without a reset and while `dropped` is not full, no byte is unaccounted for
---   Determined p        the claim leaves no choice: whatever satisfies it answers, tells and counts as this parser does
---   ResetFirst p q      p, with a field out of range, is fed as q is, which is what a reset of p leaves
--- A division and its pieces are those of the crate `framing`, calls, histories and stretches those of the crate
--- `engine`; what is open, what is a whole frame, what decodes and what is delivered those of the crate `stream`. 54 is
--- the largest length, 4,294,967,295 the most that a counter holds.
+--   did, left         what calls did, the first on the parser x, each other on the parser that the one before left; and
+--                     the parser that they left
+--   Demand3 p x       every list of calls that pass bytes fulfils the demand, from the parser x, in which p is pending
+--   FromHere x        nothing is pending in x: it is fresh, or just reset
+--   Determined p x    the demand leaves no choice: whatever fulfils it does as the parser x does
+--   Stands x p        p is what x stands for: the bytes of the frame in progress, none where a field is out of range
+--   FromAny x         whatever its fields are, the demand holds of x, with what it stands for pending; and what follows
+--   Accounted x       from x, without a reset and while `dropped` is not full, no byte is unaccounted for
+--   ResetFirst x y    x, with a field out of range, is fed as y is, which is what a reset of x leaves
+-- What is fulfilled stands in the crate `engine` (Fulfilled), what is open, whole, decodes and is delivered in the
+-- crate `stream` (Open, Deliver), what is out of range in the crate `scan` (Stands). The largest length and the most of
+-- a counter are fixed in the crates `limit` and `number`.
 use mathlib.Core.Path.{_≡_}
-use mathlib.Core.List.{List, _∷_, _++_, List·Memᴰ}
-use mathlib.Core.Bool.{false, not}
+use mathlib.Core.List.{List, [], _∷_, _++_}
 use Prim.Native.Nat.{ℕ, _+_, _<_, min}
 use lib.ListN.{length}
-use Rattle.framing.specs.Framing.{Piece}
-use Rattle.framing.specs.Division.{Division, Divided}
-use Rattle.framing.specs.Tally.{sum, resynced, lost, framed, waiting, passed}
+use Rattle.number.specs.Counter.{counterMost}
+use Rattle.limit.specs.Length.{linkMost}
+use Rattle.framing.specs.Piece.{Piece}
+use Rattle.framing.specs.Division.{Division}
+use Rattle.framing.specs.Tally.{sum, framed}
 use Rattle.engine.specs.Bytes.{Every}
-use Rattle.engine.specs.Calls.{Call, ByteCall, Goes, Did, Took, takenBy, stretches, glue, lastOf, sumOver}
-use Rattle.engine.specs.Engine.{Engine, history, final, deliveries, answers}
-use Rattle.engine.specs.Correct.{CallRight, Correct, Same}
-use Rattle.stream.specs.Link.{link}
-use Rattle.stream.specs.Deliver.{Answer, decodes, Counter}
-use Rattle.stream.specs.Decoding.{decoding, counting}
-use Rattle.scan.specs.Scan.{inOrder}
+use Rattle.engine.specs.Calls.{Call, ByteCall, Goes, Did, sliced, takenBy}
+use Rattle.engine.specs.Engine.{Engine, history, final}
+use Rattle.engine.specs.Fulfilled.{deliveries, Fulfilled, Same}
+use Rattle.stream.specs.Open.{Open, Whole}
+use Rattle.stream.specs.Deliver.{Answer, nothing, Counter}
+use Rattle.stream.specs.Protocol.{ld2410}
+use Rattle.scan.specs.Stands.{OutOfRange, pendingOf}
 use Rattle.parser.specs.Feed.{feedOf, feedSliceOf, unfinishedOf}
-use Rattle.parser.specs.Engine.{engine}
+use Rattle.parser.specs.Engine.{counterIn, pendingBy, engine}
 use Rattle.parser.specs.declared.Parser.{Parser}
 
--- What the calls did, and the parser that they left.
 abbrev pub did : Parser → List Call → List (Did Answer)
-did p calls = history (engine 54) p calls
+did x calls = history (engine linkMost) x calls
 
 abbrev pub left : Parser → List Call → Parser
-left p calls = final (engine 54) p calls
+left x calls = final (engine linkMost) x calls
 
--- The total of a number over the divisions of all the stretches.
-abbrev pub totalOver : ((t : List ℕ) → Divided (link 54) t) → (Piece → ℕ) → List (Did Answer) → ℕ
-totalOver divide f ds = sumOver (λ t. sum f (divide t .pieces)) (stretches ds)
-
-pub record Fulfilled (p : Parser) (calls : List Call) : Type 0 where
-  -- the bytes taken in each stretch divide in exactly one way
-  pub divide : (t : List ℕ) → Divided (link 54) t
-  -- the stretches, with the resets between them, are all the calls, and no reset is within one
-  pub glued : glue (stretches (did p calls)) ≡ did p calls
-  pub apart : Every (λ g. Every Took g) (stretches (did p calls))
-  -- a call delivered a frame exactly when the last byte it took ends a whole frame that decodes, and it delivered that
-  -- one; a slice feed told exactly how many bytes it took
-  pub right : (g : List (Did Answer)) → List·Memᴰ g (stretches (did p calls))
-      → (before : List (Did Answer)) (d : Did Answer) (behind : List (Did Answer)) → g ≡ before ++ (d ∷ behind)
-      → CallRight (link 54) decoding divide (takenBy before) (takenBy g) d
-  -- the frames delivered in a stretch are all its whole frames that decode, each once, in order
-  pub delivered : (g : List (Did Answer)) → List·Memᴰ g (stretches (did p calls))
-      → deliveries decoding g ≡ answers decoding (divide (takenBy g) .pieces)
-  -- every counter equals what it held at the start plus its total over all those divisions, or its most if that is less
-  pub frames : left p calls .stats .frames
-      ≡ min (p .stats .frames + totalOver divide (passed decodes) (did p calls)) 4294967295
-  pub resyncs : left p calls .stats .resyncs
-      ≡ min (p .stats .resyncs + totalOver divide resynced (did p calls)) 4294967295
-  pub dropped : left p calls .stats .dropped
-      ≡ min (p .stats .dropped + totalOver divide lost (did p calls)) 4294967295
-  pub malformed : left p calls .stats .malformed
-      ≡ min (p .stats .malformed + totalOver divide (passed (λ f. not (decodes f))) (did p calls)) 4294967295
-  -- unfinished is the length of the last stretch's unfinished end, 0 if it has none
-  pub unfinished : unfinishedOf 54 (left p calls)
-      ≡ sum waiting (divide (takenBy (lastOf (stretches (did p calls)))) .pieces)
+abbrev pub Demand3 : List ℕ → Parser → Type 0
+Demand3 p x = (calls : List Call) → Every ByteCall calls → Fulfilled (ld2410 linkMost) (engine linkMost) p x calls
 
 abbrev pub FromHere : Parser → Type 0
-FromHere p = (calls : List Call) → Every ByteCall calls → Fulfilled p calls
+FromHere x = Demand3 [] x
+
+abbrev pub Determined : List ℕ → Parser → Type 0
+Determined p x = (E : Engine Parser Answer Counter) (s : Parser) (calls : List Call) → Every ByteCall calls
+    → Fulfilled (ld2410 linkMost) E p s calls → E .most ≡ counterMost
+    → ((k : Counter) → E .counter k s ≡ counterIn k (x .stats)) → Same E (engine linkMost) s x calls
+
+pub record Stands (x : Parser) (p : List ℕ) : Type 0 where
+  -- out of range it "is handled as if reset came first": nothing is pending
+  pub out : OutOfRange linkMost (x .scan) → p ≡ []
+  -- in range it is not reset
+  pub inside : ¬ OutOfRange linkMost (x .scan) → p ≡ pendingOf (x .scan) (x .buf)
+
+pub record FromAny (x : Parser) : Type 0 where
+  pub stands : Stands x (pendingBy linkMost x)
+  pub fulfilled : Demand3 (pendingBy linkMost x) x
+  pub determined : Determined (pendingBy linkMost x) x
+  -- the counter of frames counts the frames that were delivered
+  pub frames : (calls : List Call) → Every ByteCall calls → left x calls .stats .frames
+      ≡ min (x .stats .frames + length (deliveries (ld2410 linkMost .delivers) (did x calls))) counterMost
+  -- "an empty slice takes none", and delivers nothing
+  pub empty : (calls : List Call) → Every ByteCall calls → (before behind : List (Did Answer)) (k : ℕ) (a : Answer)
+      → did x calls ≡ before ++ (sliced [] k a ∷ behind) → (k ≡ 0) × (a ≡ nothing)
+  -- a parser y that stands for the same as what calls left, and has its counters, goes on as that
+  pub resumed : (calls more : List Call) → Every ByteCall calls → Every ByteCall more
+      → (y : Parser) → Demand3 (pendingBy linkMost y) y → pendingBy linkMost y ≡ pendingBy linkMost (left x calls)
+      → y .stats ≡ left x calls .stats → did x (calls ++ more) ≡ did x calls ++ did y more
 
 -- "from fresh, without a reset and with no counter full, bytes taken equal dropped plus unfinished plus the lengths of
 -- whole frames"
 abbrev pub Accounted : Parser → Type 0
-Accounted p = (calls : List Call) → Every ByteCall calls → Every Goes calls
-    → left p calls .stats .dropped < 4294967295
-    → (ps : List Piece) → Division (link 54) (takenBy (did p calls)) ps
-    → length (takenBy (did p calls)) ≡ left p calls .stats .dropped + unfinishedOf 54 (left p calls) + sum framed ps
-
-abbrev pub Determined : Parser → Type 0
-Determined p = (E : Engine Parser Answer Counter) (s : Parser) (calls : List Call) → Every ByteCall calls
-    → Correct (link 54) decoding counting E s calls → E .most ≡ 4294967295
-    → ((k : Counter) → E .counter k s ≡ engine 54 .counter k p) → Same E (engine 54) s p calls
+Accounted x = (calls : List Call) → Every ByteCall calls → Every Goes calls
+    → left x calls .stats .dropped < counterMost
+    → (ps : List Piece) → Division (Open linkMost) (Whole linkMost) (takenBy (did x calls)) ps
+    → length (takenBy (did x calls))
+    ≡ left x calls .stats .dropped + unfinishedOf linkMost (left x calls) + sum framed ps
 
 -- "A parser built by hand with fields out of range .. is handled as if reset came first."
-pub record ResetFirst (p q : Parser) : Type 0 where
-  pub of-byte : inOrder 54 (p .scan) ≡ false → (b : ℕ) → feedOf 54 p b ≡ feedOf 54 q b
-  pub of-slice : inOrder 54 (p .scan) ≡ false → (bs : List ℕ) → feedSliceOf 54 p bs ≡ feedSliceOf 54 q bs
+pub record ResetFirst (x y : Parser) : Type 0 where
+  pub of-byte : OutOfRange linkMost (x .scan) → (b : ℕ) → feedOf linkMost x b ≡ feedOf linkMost y b
+  pub of-slice : OutOfRange linkMost (x .scan) → (bs : List ℕ) → feedSliceOf linkMost x bs ≡ feedSliceOf linkMost y bs

@@ -9,7 +9,8 @@ use Rattle.number.specs.Counter.{counterMost}
 use Rattle.frame.specs.declared.Frame.{Frame}
 use Rattle.engine.specs.Engine.{Engine}
 use Rattle.stream.specs.Deliver.{Answer, payloadOf, Counter, frames, resyncs, dropped, malformed}
-use Rattle.scan.specs.Scan.{settled, pendingOf}
+use Rattle.scan.specs.Scan.{settled}
+use Rattle.scan.specs.Stands.{pendingOf}
 use Rattle.parser.specs.Feed.{feedOf, feedSliceOf, resetOf, unfinishedOf}
 use Rattle.stats.specs.declared.Stats.{Stats}
 use Rattle.parser.specs.declared.Parser.{Parser}

@@ -6,15 +6,17 @@ use feeding::feed_slice_at;
 use frame::Frame;
 use scan::Scan;
 ghost use mathlib.Core.Path.{_≡_};
+ghost use mathlib.Core.List.{[]};
 ghost use Rattle.limit.specs.Length.{linkMost};
 ghost use Rattle.parser.specs.Feed.{feedOf, feedSliceOf, resetOf};
-ghost use Rattle.parser.specs.Claims.{FromHere, Determined};
+ghost use Rattle.parser.specs.Claims.{FromHere, FromAny, Determined};
 
 impl Parser {
     // `fed` on a parser that is lent: it stays where it is, and nothing of its buffer is copied.
     pub fn feed(&mut self, byte: u8) -> Frame
         ensures fed { λ r. ⌜ (r ≡ feedOf linkMost (now (self .entry)) byte .answer)
             × (now (self .exit) ≡ feedOf linkMost (now (self .entry)) byte .parser) ⌝ }
+        ensures any { λ _. ⌜ FromAny (now (self .entry)) ⌝ }
     {
         let scan = self.scan;
         let stats = self.stats;
@@ -28,6 +30,7 @@ impl Parser {
     pub fn feed_slice(&mut self, bytes: &[u8]) -> Taken
         ensures fed { λ r. ⌜ (r ≡ feedSliceOf linkMost (now (self .entry)) (now (bytes .entry)) .answer)
             × (now (self .exit) ≡ feedSliceOf linkMost (now (self .entry)) (now (bytes .entry)) .parser) ⌝ }
+        ensures any { λ _. ⌜ FromAny (now (self .entry)) ⌝ }
     {
         let scan = self.scan;
         let stats = self.stats;
@@ -41,7 +44,7 @@ impl Parser {
     pub fn reset(&mut self)
         ensures reset { λ _. ⌜ now (self .exit) ≡ resetOf (now (self .entry)) ⌝ }
         ensures fulfilled { λ _. ⌜ FromHere (now (self .exit)) ⌝ }
-        ensures determined { λ _. ⌜ Determined (now (self .exit)) ⌝ }
+        ensures determined { λ _. ⌜ Determined [] (now (self .exit)) ⌝ }
     {
         self.scan = Scan::hunting();
     }
@@ -52,7 +55,7 @@ impl Parser {
 pub fn reset_lent(parser: Parser) -> Parser
     ensures reset { λ r. ⌜ r ≡ resetOf parser ⌝ }
     ensures fulfilled { λ r. ⌜ FromHere r ⌝ }
-    ensures determined { λ r. ⌜ Determined r ⌝ }
+    ensures determined { λ r. ⌜ Determined [] r ⌝ }
 {
     let mut lent = parser;
     lent.reset();

@@ -14,6 +14,7 @@ mod value;
 
 pub use lent::reset_lent;
 ghost use mathlib.Core.Path.{_≡_};
+ghost use mathlib.Core.List.{[]};
 ghost use Rattle.limit.specs.Length.{linkMost};
 ghost use Rattle.parser.specs.Feed.{fresh, unfinishedOf};
 ghost use Rattle.parser.specs.Claims.{FromHere, Accounted, Determined};
@@ -43,7 +44,7 @@ impl Parser {
         ensures made { λ r. ⌜ r ≡ fresh ⌝ }
         ensures fulfilled { λ r. ⌜ FromHere r ⌝ }
         ensures accounted { λ r. ⌜ Accounted r ⌝ }
-        ensures determined { λ r. ⌜ Determined r ⌝ }
+        ensures determined { λ r. ⌜ Determined [] r ⌝ }
     {
         Parser {
             buf: [0; MAX_FRAME],

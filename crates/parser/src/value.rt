@@ -5,15 +5,17 @@ use super::FedSlice;
 use super::Parser;
 use scan::Scan;
 ghost use mathlib.Core.Path.{_≡_};
+ghost use mathlib.Core.List.{[]};
 ghost use Rattle.limit.specs.Length.{linkMost};
 ghost use Rattle.parser.specs.Feed.{feedOf, feedSliceOf, resetOf};
-ghost use Rattle.parser.specs.Claims.{FromHere, Determined, ResetFirst};
+ghost use Rattle.parser.specs.Claims.{FromHere, FromAny, Determined, ResetFirst};
 
 impl Parser {
     // Feeds one received byte; the answer is the frame that this byte completed, or no frame. A parser with a field out
     // of range is handled as if reset came first.
     pub fn fed(self, byte: u8) -> Fed
         ensures fed { λ r. ⌜ r ≡ feedOf linkMost self byte ⌝ }
+        ensures any { λ _. ⌜ FromAny self ⌝ }
     {
         let mut lent = self;
         let answer = lent.feed(byte);
@@ -27,6 +29,7 @@ impl Parser {
     // tells how many, and the frame. Call again with the rest.
     pub fn fed_slice(self, bytes: &[u8]) -> FedSlice
         ensures fed { λ r. ⌜ r ≡ feedSliceOf linkMost self (now (bytes .entry)) ⌝ }
+        ensures any { λ _. ⌜ FromAny self ⌝ }
     {
         let mut lent = self;
         let answer = lent.feed_slice(bytes);
@@ -42,7 +45,7 @@ impl Parser {
     pub fn cleared(self) -> Self
         ensures reset { λ r. ⌜ r ≡ resetOf self ⌝ }
         ensures fulfilled { λ r. ⌜ FromHere r ⌝ }
-        ensures determined { λ r. ⌜ Determined r ⌝ }
+        ensures determined { λ r. ⌜ Determined [] r ⌝ }
         ensures first { λ r. ⌜ ResetFirst self r ⌝ }
     {
         let buf = self.buf;

@@ -5,7 +5,8 @@ use mathlib.Core.List.{List, [], _∷_, _++_}
 use mathlib.Core.Bool.{Bool, true, false}
 use Prim.Native.Nat.{ℕ}
 use native.Mathlib.Omega.{arith}
-use Rattle.refusal.specs.Refusal.{numberOf}
+use Rattle.refusal.specs.Refusal.{accepted, refused, returned}
+use Rattle.refusal.specs.declared.Error.the-variants.{InvalidFormat, Unsupported}
 use Rattle.refusal.specs.Check.{Checks, orFailed, firstFailed, Passes, FailsFirst, errorOf, outcomeOf, Causes}
 use Rattle.refusal.specs.declared.Check.{Check}
 use Rattle.refusal.specs.declared.Check.the-variants.{F1, F2, F3, F4, R1, R2, R3, R4, R5, R6, R7, R8, A1, A2}
@@ -79,21 +80,25 @@ module _ (s : List ℕ) (ds : Checks) where
       go false more e = let z : _≡_ {A = ℕ} 0 1 = cc in absurd (omega arith)
 
 -- Every check but R6 gives 1.
-numbered : (c : Check) → (numberOf (errorOf c) ≡ 1) ⊎ (c ≡ R6)
-numbered F1 = inl refl
-numbered F2 = inl refl
-numbered F3 = inl refl
-numbered F4 = inl refl
-numbered R1 = inl refl
-numbered R2 = inl refl
-numbered R3 = inl refl
-numbered R4 = inl refl
-numbered R5 = inl refl
-numbered R6 = inr refl
-numbered R7 = inl refl
-numbered R8 = inl refl
-numbered A1 = inl refl
-numbered A2 = inl refl
+given : (c : Check) → (errorOf c ≡ InvalidFormat) ⊎ (c ≡ R6)
+given F1 = inl refl
+given F2 = inl refl
+given F3 = inl refl
+given F4 = inl refl
+given R1 = inl refl
+given R2 = inl refl
+given R3 = inl refl
+given R4 = inl refl
+given R5 = inl refl
+given R6 = inr refl
+given R7 = inl refl
+given R8 = inl refl
+given A1 = inl refl
+given A2 = inl refl
+
+-- R6 gives 2, so a check that gives 1 is another.
+other-than-R6 : (c : Check) → errorOf c ≡ InvalidFormat → c ≢ R6
+other-than-R6 c e q = let z : _≡_ {A = ℕ} 0 1 = cc (ap errorOf q) in absurd (omega arith)
 
 -- The causes, by the first failed check.
 module _ (cs : Checks) (s : List ℕ) where
@@ -104,35 +109,40 @@ module _ (cs : Checks) (s : List ℕ) where
   one-check : {c d : Check} → firstFailed cs s ≡ Maybe.Some c → firstFailed cs s ≡ Maybe.Some d → c ≡ d
   one-check e q = cc
 
-  passed : firstFailed cs s ≡ Maybe.None → Causes cs s (outcomeOf Maybe.None)
-  passed e = record {
-    accepted = (λ z. passes-sound s cs e, λ h. refl);
-    invalid = (λ z. absurd (omega arith), λ h. absurd (none-not-some e (fails-complete s cs (h .0) (h .1))));
-    unsupported = (λ z. absurd (omega arith), λ h. absurd (none-not-some e (fails-complete s cs R6 h)));
-  }
+  module _ {A : Type 0} (z v : A) where
+    passed : firstFailed cs s ≡ Maybe.None → Causes z cs s (accepted v)
+    passed e = record {
+      accepted = (λ n. passes-sound s cs e, λ h. refl);
+      invalid = (λ n. absurd (omega arith), λ h. absurd (none-not-some e (fails-complete s cs (h .0) (h .1))));
+      unsupported = (λ n. absurd (omega arith), λ h. absurd (none-not-some e (fails-complete s cs R6 h)));
+      total = inl refl;
+      blank = λ n. absurd (n refl);
+    }
 
-  failed-R6 : firstFailed cs s ≡ Maybe.Some R6 → Causes cs s (outcomeOf (Maybe.Some R6))
-  failed-R6 e = record {
-    accepted = (λ z. absurd (omega arith), λ h. absurd (none-not-some (passes-complete s cs h) e));
-    invalid = (λ z. absurd (omega arith), λ h. absurd (h .2 (one-check (fails-complete s cs (h .0) (h .1)) e)));
-    unsupported = (λ z. fails-sound s cs R6 e, λ h. refl);
-  }
+    failed-R6 : firstFailed cs s ≡ Maybe.Some R6 → Causes z cs s (refused z Unsupported)
+    failed-R6 e = record {
+      accepted = (λ n. absurd (omega arith), λ h. absurd (none-not-some (passes-complete s cs h) e));
+      invalid = (λ n. absurd (omega arith), λ h. absurd (h .2 (one-check (fails-complete s cs (h .0) (h .1)) e)));
+      unsupported = (λ n. fails-sound s cs R6 e, λ h. refl);
+      total = inr (inr refl);
+      blank = λ n. refl;
+    }
 
-  failed-other : (c : Check) → numberOf (errorOf c) ≡ 1 → firstFailed cs s ≡ Maybe.Some c
-      → Causes cs s (outcomeOf (Maybe.Some c))
-  failed-other c n e =
-      let other : c ≢ R6 = λ q. absurd (omega (arith, n, ap (λ x. numberOf (errorOf x)) q)) in
-      record {
-        accepted = (λ z. absurd (omega arith), λ h. absurd (none-not-some (passes-complete s cs h) e));
-        invalid = (λ z. (c, fails-sound s cs c e, other), λ h. n);
-        unsupported = (λ z. absurd (omega arith), λ h. absurd (other (one-check e (fails-complete s cs R6 h))));
-      }
+    failed-other : (c : Check) → c ≢ R6 → firstFailed cs s ≡ Maybe.Some c → Causes z cs s (refused z InvalidFormat)
+    failed-other c other e = record {
+      accepted = (λ n. absurd (omega arith), λ h. absurd (none-not-some (passes-complete s cs h) e));
+      invalid = (λ n. (c, fails-sound s cs c e, other), λ h. refl);
+      unsupported = (λ n. absurd (omega arith), λ h. absurd (other (one-check e (fails-complete s cs R6 h))));
+      total = inr (inl refl);
+      blank = λ n. refl;
+    }
 
-  causes-of : (o : MaybeCheck) → firstFailed cs s ≡ o → Causes cs s (outcomeOf o)
-  causes-of (Maybe.Some c) e =
-      ⊎-elim (λ n. failed-other c n e) (λ q. rw q (failed-R6 (rw q at e))) (numbered c)
-  causes-of Maybe.None e = passed e
+    causes-of : (o : MaybeCheck) → firstFailed cs s ≡ o → Causes z cs s (returned z (outcomeOf o) v)
+    causes-of (Maybe.Some c) e =
+        ⊎-elim (λ i. rw i (failed-other c (other-than-R6 c i) e)) (λ q. rw q (failed-R6 (rw q at e))) (given c)
+    causes-of Maybe.None e = passed e
 
-  -- Every reader that answers by its first failed check gives each number exactly in its cause.
-  pub causes : Causes cs s (outcomeOf (firstFailed cs s))
-  causes = causes-of (firstFailed cs s) refl
+    -- Every reader that answers by its first failed check gives each number exactly in its cause, and 0 in every other
+    -- field.
+    pub causes : Causes z cs s (returned z (outcomeOf (firstFailed cs s)) v)
+    causes = causes-of (firstFailed cs s) refl

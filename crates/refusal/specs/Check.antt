@@ -5,15 +5,16 @@
 --   FailsFirst cs c s the check c of cs fails on s, and each before it holds
 --   errorOf c         the refusal where c is the first to fail: "R6 (else refusal 2)", every other gives 1
 --   outcomeOf o       the outcome of a reader whose first failed check, if any, is o
---   Causes cs s o     each number is given by the outcome o exactly in its cause
+--   Causes z cs s r   each number is returned by r exactly in its cause, and beside it every other field is 0; z is the
+--                     value that is all 0
 use mathlib.Core.Path.{_≡_}
-use mathlib.Core.Logic.{_≢_, _↔_}
+use mathlib.Core.Logic.{_≢_, _↔_, _⊎_}
 use mathlib.Core.List.{List, [], _∷_, _++_}
 use mathlib.Core.Bool.{Bool, true, false}
 use Prim.Native.Nat.{ℕ}
 use Rattle.refusal.specs.declared.Error.{Error}
 use Rattle.refusal.specs.declared.Error.the-variants.{InvalidFormat, Unsupported}
-use Rattle.refusal.specs.Refusal.{refusalOf}
+use Rattle.refusal.specs.Refusal.{Returned}
 use Rattle.refusal.specs.declared.Outcome.{Outcome}
 use Rattle.refusal.specs.declared.Outcome.the-variants.{Ok, Err}
 use Rattle.refusal.specs.declared.MaybeCheck.{MaybeCheck}
@@ -64,10 +65,14 @@ abbrev pub outcomeOf : MaybeCheck → Outcome
 outcomeOf (Maybe.Some c) = Err (errorOf c)
 outcomeOf Maybe.None = Ok
 
-pub record Causes (cs : Checks) (s : List ℕ) (o : Outcome) : Type 0 where
+pub record Causes {A : Type 0} (z : A) (cs : Checks) (s : List ℕ) (r : Returned A) : Type 0 where
   -- nothing is refused exactly if every check holds
-  pub accepted : refusalOf o ≡ 0 ↔ Passes cs s
+  pub accepted : r .number ≡ 0 ↔ Passes cs s
   -- 1 is given exactly where the first check that fails is another than R6
-  pub invalid : refusalOf o ≡ 1 ↔ (c : Check) × FailsFirst cs c s × (c ≢ R6)
+  pub invalid : r .number ≡ 1 ↔ (c : Check) × FailsFirst cs c s × (c ≢ R6)
   -- 2 is given exactly where that is R6
-  pub unsupported : refusalOf o ≡ 2 ↔ FailsFirst cs R6 s
+  pub unsupported : r .number ≡ 2 ↔ FailsFirst cs R6 s
+  -- and nothing else is given
+  pub total : (r .number ≡ 0) ⊎ ((r .number ≡ 1) ⊎ (r .number ≡ 2))
+  -- "number, other fields 0"
+  pub blank : r .number ≢ 0 → r ≡ record { number = r .number; needed = 0; value = z }

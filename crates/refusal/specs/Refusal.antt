@@ -2,6 +2,12 @@
 --   numberOf e    the number that the table gives to the cause e
 --   neededOf e    the bytes needed that stand beside number 4; 0 beside every other number
 --   refusalOf o   the number of an outcome's refusal, 0 where nothing is refused
+--   neededBy o    the bytes needed that stand beside that number
+--   Returned A    what a call returns, by the table's column "Returned": a number, the bytes needed, and a value
+--   accepted v    nothing is refused: number 0, and the value v
+--   refused z e   refused by e: "number, other fields 0", or "number and bytes needed"; z is the value that is all 0
+--   returned z o v   what a call returns by its outcome o: the value v, or the refusal beside z
+--   beside o v    what is returned by an answer that holds its outcome o beside the value v
 use Prim.Native.Nat.{ℕ}
 use Rattle.refusal.specs.declared.Error.{Error}
 use Rattle.refusal.specs.declared.Error.the-variants.{InvalidFormat, Unsupported, Hardware, BufferTooSmall}
@@ -28,3 +34,25 @@ neededOf Unrepresentable = 0
 abbrev pub refusalOf : Outcome → ℕ
 refusalOf Ok = 0
 refusalOf (Err e) = numberOf e
+
+abbrev pub neededBy : Outcome → ℕ
+neededBy Ok = 0
+neededBy (Err e) = neededOf e
+
+pub record Returned (A : Type 0) : Type 0 where
+  pub number : ℕ
+  pub needed : ℕ
+  pub value : A
+
+abbrev pub accepted : {A : Type 0} → A → Returned A
+accepted v = record { number = 0; needed = 0; value = v }
+
+abbrev pub refused : {A : Type 0} → A → Error → Returned A
+refused z e = record { number = numberOf e; needed = neededOf e; value = z }
+
+abbrev pub returned : {A : Type 0} → A → Outcome → A → Returned A
+returned z Ok v = accepted v
+returned z (Err e) v = refused z e
+
+abbrev pub beside : {A : Type 0} → Outcome → A → Returned A
+beside o v = record { number = refusalOf o; needed = neededBy o; value = v }

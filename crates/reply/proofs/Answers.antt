@@ -1,21 +1,25 @@
--- The outcome of an answer is the one that it was made of.
+-- An answer returns what its outcome says: the value that it was made of, or the refusal with every other field 0.
 use mathlib.Core.Path.{_≡_, refl}
+use Rattle.refusal.specs.Refusal.{returned}
 use Rattle.refusal.specs.declared.Outcome.{Outcome}
 use Rattle.refusal.specs.declared.Outcome.the-variants.{Ok, Err}
-use Rattle.reply.specs.Replies.{enableConfigAs, outcomeOfEnableConfig, firmwareAs, outcomeOfFirmware}
-use Rattle.reply.specs.Replies.{macAs}
+use Rattle.reply.specs.Replies.{noEnableConfig, enableConfigAs, returnedEnableConfig}
+use Rattle.reply.specs.Replies.{noFirmware, firmwareAs, returnedFirmware}
+use Rattle.reply.specs.Replies.{noMac, macAs, returnedMac}
 use Rattle.reply.specs.declared.EnableConfig.{EnableConfig}
 use Rattle.reply.specs.declared.FirmwareVersion.{FirmwareVersion}
 use Rattle.reply.specs.declared.Mac.{Mac}
 
-pub enable-config-outcome : (o : Outcome) (v : EnableConfig) → outcomeOfEnableConfig (enableConfigAs o v) ≡ o
-enable-config-outcome Ok v = refl
-enable-config-outcome (Err e) v = refl
+pub enable-config-returned : (o : Outcome) (v : EnableConfig)
+    → returnedEnableConfig (enableConfigAs o v) ≡ returned noEnableConfig o v
+enable-config-returned Ok v = refl
+enable-config-returned (Err e) v = refl
 
-pub firmware-outcome : (o : Outcome) (v : FirmwareVersion) → outcomeOfFirmware (firmwareAs o v) ≡ o
-firmware-outcome Ok v = refl
-firmware-outcome (Err e) v = refl
+pub firmware-returned : (o : Outcome) (v : FirmwareVersion)
+    → returnedFirmware (firmwareAs o v) ≡ returned noFirmware o v
+firmware-returned Ok v = refl
+firmware-returned (Err e) v = refl
 
-pub mac-outcome : (o : Outcome) (v : Mac) → macAs o v .outcome ≡ o
-mac-outcome Ok v = refl
-mac-outcome (Err e) v = refl
+pub mac-returned : (o : Outcome) (v : Mac) → returnedMac (macAs o v) ≡ returned noMac o v
+mac-returned Ok v = refl
+mac-returned (Err e) v = refl

@@ -1,5 +1,5 @@
 -- Laws about the definitions, which the proofs of this crate and of the crates above cite.
 -- A payload read as a reply, whichever it is.
 pub mod Payloads
--- The outcome of an answer is the one that it was made of.
+-- An answer returns what its outcome says.
 pub mod Answers

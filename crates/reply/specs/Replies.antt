@@ -1,13 +1,14 @@
 -- Three of the four replies of document 01, point 3; the crate `parameters` has the fourth. Of each: what its payload
--- holds (Of), the reply, the answer for an outcome and a value (As; every field 0 beside a refusal), and an answer's
--- outcome where that is no field.
---   enableConfigOf, enableConfigReply, enableConfigAs, outcomeOfEnableConfig
---   firmwareOf, firmwareReply, firmwareAs, outcomeOfFirmware
---   macOf, macReply, macAs
+-- holds (Of), the reply, the value that is all 0 (no), the answer for an outcome and a value (As; every field 0 beside
+-- a refusal), and the number and the values that an answer returns (returned).
+--   enableConfigOf, enableConfigReply, noEnableConfig, enableConfigAs, returnedEnableConfig
+--   firmwareOf, firmwareReply, noFirmware, firmwareAs, returnedFirmware
+--   macOf, macReply, noMac, macAs, returnedMac
 use mathlib.Core.List.{List}
 use Prim.Native.Nat.{ℕ}
 use lib.ListN.{take, drop, replicate}
 use Rattle.number.specs.Number.{little}
+use Rattle.refusal.specs.Refusal.{Returned, accepted, refused, beside}
 use Rattle.refusal.specs.declared.Outcome.{Outcome}
 use Rattle.refusal.specs.declared.Outcome.the-variants.{Ok, Err}
 use Rattle.reply.specs.Reply.{Reply, sized}
@@ -27,13 +28,16 @@ enableConfigOf p = record { «protocol_version» = little (take 2 p); «buffer_s
 abbrev pub enableConfigReply : Reply EnableConfig
 enableConfigReply = sized 0x00FF 4 enableConfigOf
 
+abbrev pub noEnableConfig : EnableConfig
+noEnableConfig = record { «protocol_version» = 0; «buffer_size» = 0 }
+
 abbrev pub enableConfigAs : Outcome → EnableConfig → EnableConfigResult
 enableConfigAs Ok v = Enabled.Ok v
 enableConfigAs (Err e) v = Enabled.Err e
 
-abbrev pub outcomeOfEnableConfig : EnableConfigResult → Outcome
-outcomeOfEnableConfig (Enabled.Ok v) = Ok
-outcomeOfEnableConfig (Enabled.Err e) = Err e
+abbrev pub returnedEnableConfig : EnableConfigResult → Returned EnableConfig
+returnedEnableConfig (Enabled.Ok v) = accepted v
+returnedEnableConfig (Enabled.Err e) = refused noEnableConfig e
 
 -- "`firmware_version` is type and major, two each, and minor, four"
 abbrev pub firmwareOf : List ℕ → FirmwareVersion
@@ -46,13 +50,16 @@ firmwareOf p = record {
 abbrev pub firmwareReply : Reply FirmwareVersion
 firmwareReply = sized 0x00A0 8 firmwareOf
 
+abbrev pub noFirmware : FirmwareVersion
+noFirmware = record { «firmware_type» = 0; major = 0; minor = 0 }
+
 abbrev pub firmwareAs : Outcome → FirmwareVersion → FirmwareVersionResult
 firmwareAs Ok v = Firmware.Ok v
 firmwareAs (Err e) v = Firmware.Err e
 
-abbrev pub outcomeOfFirmware : FirmwareVersionResult → Outcome
-outcomeOfFirmware (Firmware.Ok v) = Ok
-outcomeOfFirmware (Firmware.Err e) = Err e
+abbrev pub returnedFirmware : FirmwareVersionResult → Returned FirmwareVersion
+returnedFirmware (Firmware.Ok v) = accepted v
+returnedFirmware (Firmware.Err e) = refused noFirmware e
 
 -- "`mac` is six bytes"
 abbrev pub macOf : List ℕ → Mac
@@ -67,3 +74,6 @@ noMac = record { 0 = replicate 6 0 }
 abbrev pub macAs : Outcome → Mac → MacResult
 macAs Ok v = record { outcome = Ok; mac = v }
 macAs (Err e) v = record { outcome = Err e; mac = noMac }
+
+abbrev pub returnedMac : MacResult → Returned Mac
+returnedMac r = beside (r .outcome) (r .mac)

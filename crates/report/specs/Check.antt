@@ -1,14 +1,15 @@
 -- The reader's answer to report data, by the checks R1 to R8.
 --   passing r               the answer where every check holds: the report r
---   failing c               the answer where c is the first that fails: every field of the report is 0
+--   failing o               the answer where o names the first that fails: every field of the report is 0
 --   checkedAs o r           the answer by the first failed check o, if there is one
 --   checkedReport s         the reader's answer to the data s
 --   completedReport f t b   the same from R6 on: of the basic fields f, the type t, the bytes b behind the basic ones
 --   parsedReport s          the reader's answer, with the refusal that the check gives
+--   returnedReport r        the number and the values that such an answer r returns
 use mathlib.Core.List.{List}
 use Prim.Native.Nat.{ℕ}
+use Rattle.refusal.specs.Refusal.{Returned, beside}
 use Rattle.refusal.specs.Check.{orFailed, firstFailed, outcomeOf}
-use Rattle.refusal.specs.declared.Check.{Check}
 use Rattle.refusal.specs.declared.Check.the-variants.{R6, R7, R8}
 use Rattle.refusal.specs.declared.MaybeCheck.{MaybeCheck}
 use Rattle.refusal.specs.declared.MaybeCheck.the-variants.{Some, None}
@@ -22,11 +23,11 @@ use Rattle.report.specs.declared.ReportResult.{ReportResult}
 abbrev pub passing : Report → CheckedReport
 passing r = record { failed = None; report = r }
 
-abbrev pub failing : Check → CheckedReport
-failing c = record { failed = Some c; report = noReport }
+abbrev pub failing : MaybeCheck → CheckedReport
+failing o = record { failed = o; report = noReport }
 
 abbrev pub checkedAs : MaybeCheck → Report → CheckedReport
-checkedAs (Some c) r = failing c
+checkedAs (Some c) r = failing (Some c)
 checkedAs None r = passing r
 
 unfoldable pub checkedReport : List ℕ → CheckedReport
@@ -40,3 +41,6 @@ completedReport f t b =
 
 unfoldable pub parsedReport : List ℕ → ReportResult
 parsedReport s = record { outcome = outcomeOf (checkedReport s .failed); report = checkedReport s .report }
+
+abbrev pub returnedReport : ReportResult → Returned Report
+returnedReport r = beside (r .outcome) (r .report)

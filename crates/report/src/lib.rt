@@ -18,6 +18,7 @@ ghost use Rattle.refusal.specs.Check.{Causes};
 ghost use Rattle.report.specs.Report.{reportWith, noReport};
 ghost use Rattle.layout.specs.Check.{reportChecks};
 ghost use Rattle.report.specs.Check.{passing, failing, checkedReport, completedReport, parsedReport};
+ghost use Rattle.report.specs.Check.{returnedReport};
 
 // Where the bytes behind the basic ones start in the data of a report frame.
 const BLOCK_AT: usize = 11;
@@ -75,12 +76,12 @@ impl CheckedReport {
         }
     }
 
-    // `check` is the first that fails.
-    fn failing(check: Check) -> Self
-        ensures made { λ r. ⌜ r ≡ failing check ⌝ }
+    // `failed` names the first check that fails.
+    fn failing(failed: MaybeCheck) -> Self
+        ensures made { λ r. ⌜ r ≡ failing failed ⌝ }
     {
         CheckedReport {
-            failed: MaybeCheck::Some(check),
+            failed,
             report: no_report(),
         }
     }
@@ -90,24 +91,33 @@ impl CheckedReport {
         ensures checked { λ r. ⌜ r ≡ completedReport basic data_type (now (block .entry)) ⌝ }
     {
         match data_type {
-            DATA_TYPE_ENGINEERING => {
-                let read = Engineering::parse(block);
-                if read.fits {
-                    let engineering = read.engineering;
-                    CheckedReport::passing(Report::made(basic, true, engineering))
-                } else {
-                    CheckedReport::failing(Check::R8)
-                }
-            }
-            DATA_TYPE_BASIC => {
-                if block.len() == 0 {
-                    CheckedReport::passing(Report::made(basic, false, no_engineering()))
-                } else {
-                    CheckedReport::failing(Check::R7)
-                }
-            }
-            _ => CheckedReport::failing(Check::R6),
+            DATA_TYPE_ENGINEERING => CheckedReport::with_block(basic, block),
+            DATA_TYPE_BASIC => CheckedReport::without_block(basic, block),
+            _ => CheckedReport::failing(MaybeCheck::Some(Check::R6)),
         }
+    }
+
+    // The same of an engineering report: check R8.
+    fn with_block(basic: Basic, block: &[u8]) -> Self
+        ensures checked { λ r. ⌜ r ≡ completedReport basic 0x01 (now (block .entry)) ⌝ }
+    {
+        let read = Engineering::parse(block);
+        let failed = read.failed;
+        let MaybeCheck::None = failed else {
+            return CheckedReport::failing(failed);
+        };
+        let engineering = read.engineering;
+        CheckedReport::passing(Report::made(basic, true, engineering))
+    }
+
+    // The same of a basic report: check R7.
+    fn without_block(basic: Basic, block: &[u8]) -> Self
+        ensures checked { λ r. ⌜ r ≡ completedReport basic 0x02 (now (block .entry)) ⌝ }
+    {
+        if block.len() != 0 {
+            return CheckedReport::failing(MaybeCheck::Some(Check::R7));
+        }
+        CheckedReport::passing(Report::made(basic, false, no_engineering()))
     }
 }
 
@@ -132,20 +142,19 @@ impl Report {
     pub fn checked(data: &[u8]) -> CheckedReport
         ensures checked { λ r. ⌜ r ≡ checkedReport (now («data» .entry)) ⌝ }
     {
-        match Layout::checked(data) {
-            CheckedLayout::Ok(layout) => {
-                let basic = layout.basic;
-                let end = data.len() - 2;
-                CheckedReport::completed(basic, layout.data_type, &data[BLOCK_AT..end])
-            }
-            CheckedLayout::Failed(check) => CheckedReport::failing(check),
-        }
+        let read = Layout::checked(data);
+        let CheckedLayout::Ok(layout) = read else {
+            return CheckedReport::failing(read.failed());
+        };
+        let basic = layout.basic;
+        let end = data.len() - 2;
+        CheckedReport::completed(basic, layout.data_type, &data[BLOCK_AT..end])
     }
 
     // Reads the data of a report frame. Refused with 2 where R6 is the first check that fails, with 1 where another is.
     pub fn parse(data: &[u8]) -> ReportResult
         ensures parsed { λ r. ⌜ r ≡ parsedReport (now («data» .entry)) ⌝ }
-        ensures causes { λ r. ⌜ Causes reportChecks (now («data» .entry)) (r .outcome) ⌝ }
+        ensures causes { λ r. ⌜ Causes noReport reportChecks (now («data» .entry)) (returnedReport r) ⌝ }
     {
         let checked = Report::checked(data);
         let failed = checked.failed;

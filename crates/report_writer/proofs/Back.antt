@@ -2,8 +2,12 @@
 use mathlib.Core.Path.{_≡_, refl, sym}
 use mathlib.Core.List.{[], _++_}
 use mathlib.Core.Bool.{Bool, true, false}
+use Prim.Native.Nat.{_≤_}
 use native.Mathlib.Omega.{arith}
 use Rattle.refusal.specs.Check.{Passes}
+use Rattle.wire.specs.declared.Kind.the-variants as Family
+use Rattle.target_state.specs.State.{stateMax}
+use Rattle.target_state.proofs.States.{byte-most}
 use Rattle.basic.specs.Basic.{basicOf}
 use Rattle.report.specs.Report.{reportBy, reportOf}
 use Rattle.layout.specs.Check.{reportChecks}
@@ -11,7 +15,8 @@ use Rattle.engineering.specs.declared.Engineering.{Engineering}
 use Rattle.report.specs.declared.Report.{Report}
 use Rattle.report_data.specs.Data.{typeOf, basicBytes, blockIf, blockOf, reportData, frontOf, reportFrame}
 use Rattle.writable.specs.Writable.{writableIf, writable}
-use Rattle.report_writer.specs.RoundTrip.{ReadAs}
+use Rattle.envelope.proofs.Framed.{framed-dataOf}
+use Rattle.report_writer.specs.RoundTrip.{ReadAs, stateByte}
 use Rattle.report_writer.proofs.Basics.{basic-back}
 use Rattle.report_writer.proofs.Blocks.{none-back, block-fits, block-back}
 use Rattle.writable.proofs.Counts.{within-sound}
@@ -51,6 +56,13 @@ module _ (r : Report) (t : TypedReport r) where
         let d = data-is (r .«has_engineering») refl in
         let b = shaped-body (typeOf (r .«has_engineering»)) 0xAA (basicBytes r ++ blockIf (r .«has_engineering») e) in
         rw (d, b) (read-by (r .«has_engineering») refl g)
+
+    -- Its state byte is a state's.
+    pub frame-kept : stateByte (reportFrame r) ≤ stateMax
+    frame-kept =
+        let d = data-is (r .«has_engineering») refl in
+        let b = shaped-body (typeOf (r .«has_engineering»)) 0xAA (basicBytes r ++ blockIf (r .«has_engineering») e) in
+        rw (framed-dataOf Family.Report (reportData r) (omega (arith, data-short r t g)), d, b) (byte-most (r .state))
 
     -- Reading what is written gives the report.
     pub frame-back : ReadAs (reportFrame r) r

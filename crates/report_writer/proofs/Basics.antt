@@ -9,12 +9,12 @@ use lib.Seq.{drop-cons, drop-drop}
 use Rattle.number.specs.Number.{little, leBytes}
 use Rattle.number.specs.Bytes.{Bytes}
 use Rattle.put.proofs.Bytes.{bytes-take, bytes-drop, leBytes-little}
-use Rattle.target_state.specs.State.{stateOf, byteOf}
+use Rattle.target_state.specs.State.{stateMax}
 use Rattle.basic.specs.Basic.{basicOf}
 use Rattle.report.specs.Report.{reportWith}
 use Rattle.engineering.specs.declared.Engineering.{Engineering}
 use Rattle.report.specs.declared.Report.{Report}
-use Rattle.target_state.proofs.States.{state-byte}
+use Rattle.target_state.proofs.States.{state-byte, byte-kept}
 use Rattle.report_data.specs.Data.{basicBytes}
 use Rattle.report_data.proofs.Typed.{TypedReport}
 use mathlib.Core.Bool.{Bool}
@@ -47,13 +47,13 @@ module _ (s : List ℕ) (i : ℕ) where
       let n = leBytes-little (take 2 (drop i s)) (bytes-take 2 (drop i s) (bytes-drop i s b)) in
       ap (λ x. x ++ r) (rw l at n) ∙ rw (e, ← drop-drop 2 i s) (take-append-drop 2 (drop i s))
 
--- So do the bytes, where the state byte is kept.
+-- So do the bytes, where the state byte is one that is sent.
 pub basic-again : (s : List ℕ) (flag : Bool) (e : Engineering) → 9 ≤ length s → Bytes s
-    → byteOf (stateOf (getD s 0 0)) ≡ getD s 0 0 → basicBytes (reportWith (basicOf s) flag e) ++ drop 9 s ≡ s
+    → getD s 0 0 ≤ stateMax → basicBytes (reportWith (basicOf s) flag e) ++ drop 9 s ≡ s
 basic-again s flag e h b k =
     let s₇ = number-again s 7 (drop 9 s) b (omega arith) refl in
     let s₆ = byte-again s 6 _ (omega arith) s₇ in
     let s₄ = number-again s 4 _ b (omega arith) s₆ in
     let s₃ = byte-again s 3 _ (omega arith) s₄ in
     let s₁ = number-again s 1 _ b (omega arith) s₃ in
-    rw k (byte-again s 0 _ (omega arith) s₁)
+    rw (byte-kept (getD s 0 0) k) (byte-again s 0 _ (omega arith) s₁)

@@ -108,7 +108,7 @@ module _ (e : Engineering) (t : TypedBlock e) where
         (padded-back (t .extra) (w .reserved) (omega arith)) reserved-said
 
 -- What is read is within the bounds, and is written as it was.
-module _ (b : List ℕ) (h : Fits b) (s : extraCount (reserved b) ≤ 8) where
+module _ (b : List ℕ) (h : Fits b) (s : length (reserved b) ≤ 8) where
   abbrev moving : List ℕ
   moving = take (movingGates b) (drop 2 b)
 
@@ -142,8 +142,8 @@ module _ (b : List ℕ) (h : Fits b) (s : extraCount (reserved b) ≤ 8) where
     };
     reserved = record {
       least = omega arith;
-      most = s;
-      behind = padded-behind 8 (extraCount (reserved b)) (reserved b) reserved-read s;
+      most = omega arith;
+      behind = padded-behind 8 (extraCount (reserved b)) (reserved b) reserved-read (omega arith);
     };
   }
 
@@ -164,7 +164,7 @@ module _ (b : List ℕ) (h : Fits b) (s : extraCount (reserved b) ≤ 8) where
       rw (
         padded-front 9 (movingGates b) moving moving-read (h .moving),
         padded-front 9 (stationaryGates b) stationary stationary-read (h .stationary),
-        padded-front 8 (extraCount (reserved b)) (reserved b) reserved-read s,
+        padded-front 8 (extraCount (reserved b)) (reserved b) reserved-read (omega arith),
         x,
         y,
       ) block-split

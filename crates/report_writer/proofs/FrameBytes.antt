@@ -8,9 +8,7 @@ use Rattle.number.specs.Bytes.{Bytes}
 use Rattle.number.specs.Number.{leBytes}
 use Rattle.wire.specs.declared.Kind.the-variants as Family
 use Rattle.put.proofs.Bytes.{bytes-append, bytes-take, bytes-leBytes, framed-bytes}
-use Rattle.target_state.specs.State.{byteOf}
-use Rattle.target_state.specs.declared.TargetState.{TargetState}
-use Rattle.target_state.specs.declared.TargetState.the-variants.{None, Moving, Stationary, Both}
+use Rattle.target_state.proofs.States.{byte-most}
 use Rattle.engineering.specs.declared.Engineering.{Engineering}
 use Rattle.report.specs.declared.Report.{Report}
 use Rattle.report_data.specs.Data.{movingEnergies, stationaryEnergies, reservedBytes, blockOf, blockIf}
@@ -22,12 +20,6 @@ use Rattle.report_data.proofs.Typed.{TypedBlock, TypedReport}
 type-byte : (g : Bool) → typeOf g < 256
 type-byte true = omega arith
 type-byte false = omega arith
-
-state-byte : (s : TargetState) → byteOf s < 256
-state-byte None = omega arith
-state-byte Moving = omega arith
-state-byte Stationary = omega arith
-state-byte Both = omega arith
 
 block-bytes : (g : Bool) (e : Engineering) → TypedBlock e → writableIf g e ≡ true → Bytes (blockIf g e)
 unfolding blockOf
@@ -54,7 +46,7 @@ module _ (r : Report) (t : TypedReport r) where
       let middle = r .«moving_energy» ∷ (leBytes 2 s ++ last) in
       let middle-bytes : Bytes middle = (t .moving-energy, number s last last-bytes) in
       let first = number (r .«moving_distance_cm») middle middle-bytes in
-      (type-byte (r .«has_engineering»), (omega arith, (state-byte (r .state), first)))
+      (type-byte (r .«has_engineering»), (omega arith, (omega (arith, byte-most (r .state)), first)))
 
   data-bytes : writable r ≡ true → Bytes (reportData r)
   unfolding reportData

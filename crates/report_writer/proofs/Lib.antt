@@ -1,5 +1,3 @@
--- What the writer answers and leaves.
-pub mod Writing
 -- What is read as a report.
 pub mod Reading
 -- A counted prefix padded with zeros.
@@ -16,5 +14,5 @@ pub mod Back
 pub mod FrameBytes
 -- What is read is written as it was.
 pub mod Again
--- What the writer has to show.
+-- What the writer answers and leaves.
 pub mod Answers

@@ -8,13 +8,13 @@ use wire::Kind;
 use writer::WriteResult;
 use writer::put_frame;
 ghost use mathlib.Core.Path.{_≡_};
-ghost use mathlib.Core.Logic.{_↔_};
-ghost use mathlib.Core.Bool.{true, false};
+ghost use mathlib.Core.Bool.{false};
 ghost use lib.ListN.{length};
 ghost use Rattle.writer.specs.Written.{answerOf, bufferAfter, WriteCauses};
+ghost use Rattle.writer.specs.RoundTrip.{RoundTrip};
 ghost use Rattle.report_data.specs.Data.{reportFrame};
 ghost use Rattle.writable.specs.Writable.{writable, unrepresentable};
-ghost use Rattle.report_writer.specs.RoundTrip.{Readable, ReadBack, WrittenAgain};
+ghost use Rattle.report_writer.specs.RoundTrip.{reports};
 
 // Writes the report's frame into the front of `out`, and answers the bytes written. Refuses with 6 a report that the
 // reader cannot give, or one of more than eight reserved bytes; then with 4 a buffer shorter than the frame. Bytes
@@ -25,9 +25,7 @@ pub fn write_report(out: &mut [u8], report: Report) -> WriteResult
         (now (out .entry)) ⌝ }
     ensures causes { λ r. ⌜ WriteCauses 6 (writable report ≡ false) (reportFrame report)
         (length (now (out .entry))) r ⌝ }
-    ensures back { λ r. ⌜ ReadBack report r (now (out .exit)) ⌝ }
-    ensures exact { λ _. ⌜ (writable report ≡ true) ↔ Readable report ⌝ }
-    ensures again { λ _. ⌜ WrittenAgain report ⌝ }
+    ensures round { λ _. ⌜ RoundTrip reports report ⌝ }
 {
     let laid = lay(report);
     if !laid.writable {

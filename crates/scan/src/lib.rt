@@ -7,6 +7,7 @@ use wire::Kind;
 ghost use mathlib.Core.Path.{_≡_};
 ghost use Rattle.limit.specs.Length.{linkMost};
 ghost use Rattle.scan.specs.Scan.{hunting, inOrder, settled};
+ghost use Rattle.scan.specs.Stands.{Settled};
 
 // Where in a frame the parser is.
 pub enum State {
@@ -60,6 +61,7 @@ impl Scan {
     // The scan, or, where a field is out of range, as if reset came first.
     pub fn settled(self) -> Self
         ensures settled { λ r. ⌜ r ≡ settled linkMost self ⌝ }
+        ensures first { λ r. ⌜ Settled linkMost self r ⌝ }
     {
         if self.in_order() {
             self

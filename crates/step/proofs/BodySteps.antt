@@ -12,13 +12,14 @@ use borrow.Author.Tests.{le-leb, ltb-false, eq-eqb, eqb-true, eqb-false}
 use Rattle.number.specs.Number.{little, leBytes}
 use Rattle.wire.specs.Family.{header, tail}
 use Rattle.wire.specs.declared.Kind.{Kind}
-use Rattle.framing.specs.Scanner as Scanner
+use Rattle.framing.proofs.Scanner as Scanner
 use Rattle.limit.specs.Length.{inRange}
-use Rattle.stream.specs.Scan.{opens, wholes}
-use Rattle.stream.specs.Link.{link}
+use Rattle.stream.proofs.Scan.{opens, wholes}
+use Rattle.stream.proofs.Link.{link}
 use Rattle.wire.proofs.Families.{header-length, tail-length}
 use Rattle.stream.proofs.Steps.{data-opens, data-not-whole, tail-opens, tail-not-whole, tail-whole}
-use Rattle.scan.specs.Scan.{at, hunting, inOrder, pendingOf}
+use Rattle.scan.specs.Scan.{at, hunting, inOrder}
+use Rattle.scan.specs.Stands.{pendingOf}
 use Rattle.stats.specs.Start.{went, abandoned, startOf}
 use Rattle.step.specs.Step.{orElse}
 use Rattle.scan.specs.declared.State.the-variants.{Data, Tail}

@@ -17,12 +17,13 @@ use Rattle.wire.specs.declared.Kind.the-variants.{Report, Command}
 use Rattle.wire.specs.declared.MaybeKind.{MaybeKind}
 use Rattle.wire.specs.declared.MaybeKind.the-variants.{Some, None}
 use Rattle.framing.specs.Tally.{sum, resynced, lost}
-use Rattle.framing.specs.Scanner as Scanner
+use Rattle.framing.proofs.Scanner as Scanner
 use Rattle.framing.proofs.View.{step-whole, step-on, step-over}
-use Rattle.stream.specs.Scan.{opens, wholes}
-use Rattle.stream.specs.Link.{link}
+use Rattle.stream.proofs.Scan.{opens, wholes}
+use Rattle.stream.proofs.Link.{link}
 use Rattle.stream.proofs.Steps.{starting-sound, start-opens, start-strays, start-not-whole}
-use Rattle.scan.specs.Scan.{at, hunting, inOrder, pendingOf}
+use Rattle.scan.specs.Scan.{at, hunting, inOrder}
+use Rattle.scan.specs.Stands.{pendingOf}
 use Rattle.stats.specs.Start.{went, abandoned, startAs, startOf}
 use Rattle.scan.specs.declared.State.the-variants.{Header}
 use Rattle.scan.specs.declared.Scan.{Scan}

@@ -12,13 +12,14 @@ use borrow.Author.Tests.{le-leb, lt-ltb, eq-eqb, ne-eqb, eqb-true, eqb-false}
 use Rattle.number.specs.Number.{little, leBytes}
 use Rattle.wire.specs.Family.{header}
 use Rattle.wire.specs.declared.Kind.{Kind}
-use Rattle.framing.specs.Scanner as Scanner
+use Rattle.framing.proofs.Scanner as Scanner
 use Rattle.limit.specs.Length.{inRange}
-use Rattle.stream.specs.Link.{link}
+use Rattle.stream.proofs.Link.{link}
 use Rattle.wire.proofs.Families.{header-length}
 use Rattle.stream.proofs.Steps.{header-opens, header-not-whole, length-opens, length-not-whole}
 use Rattle.stream.proofs.Steps.{data-opens, data-not-whole}
-use Rattle.scan.specs.Scan.{at, inOrder, pendingOf}
+use Rattle.scan.specs.Scan.{at, inOrder}
+use Rattle.scan.specs.Stands.{pendingOf}
 use Rattle.stats.specs.Start.{went, abandoned, startOf}
 use Rattle.step.specs.Step.{orElse, stepHeader, stepLen}
 use Rattle.scan.specs.declared.State.the-variants.{Header, Len, Data}

@@ -9,10 +9,11 @@ use lib.ListN.{length, getD}
 use borrow.Author.Tests.{ltb-true, leb-true}
 use Rattle.wire.specs.Family.{tail}
 use Rattle.wire.specs.declared.Kind.{Kind}
-use Rattle.framing.specs.Scanner as Scanner
+use Rattle.framing.proofs.Scanner as Scanner
 use Rattle.limit.specs.Length.{inRange}
-use Rattle.stream.specs.Link.{link}
-use Rattle.scan.specs.Scan.{orderIn, inOrder, pendingIn, pendingOf}
+use Rattle.stream.proofs.Link.{link}
+use Rattle.scan.specs.Scan.{orderIn, inOrder}
+use Rattle.scan.specs.Stands.{pendingIn, pendingOf}
 use Rattle.step.specs.Step.{stepIn, stepOf}
 use Rattle.step.specs.Step.{storedIn, stored}
 use Rattle.scan.specs.declared.State.{State}

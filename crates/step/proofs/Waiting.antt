@@ -12,12 +12,13 @@ use Rattle.number.specs.Number.{little, leBytes}
 use Rattle.wire.specs.Family.{header, tail}
 use Rattle.wire.proofs.Families.{header-length, tail-length}
 use Rattle.wire.specs.declared.Kind.{Kind}
-use Rattle.stream.specs.Open.{InRange, in-header, in-length, in-data, in-tail, Whole}
-use Rattle.limit.specs.Length.{inRange}
-use Rattle.stream.specs.Scan.{opens, wholes}
+use Rattle.stream.specs.Open.{in-header, in-length, in-data, in-tail, Whole}
+use Rattle.limit.specs.Length.{InRange, inRange}
+use Rattle.stream.proofs.Scan.{opens, wholes}
 use Rattle.stream.proofs.Opens.{opens-complete}
 use Rattle.stream.proofs.Wholes.{wholes-sound}
-use Rattle.scan.specs.Scan.{orderIn, inOrder, pendingIn, pendingOf, unfinishedIn, unfinishedAt}
+use Rattle.scan.specs.Scan.{orderIn, inOrder, unfinishedIn, unfinishedAt}
+use Rattle.scan.specs.Stands.{pendingIn, pendingOf}
 use Rattle.scan.specs.declared.State.{State}
 use Rattle.scan.specs.declared.State.the-variants.{Header, Len, Data, Tail}
 use Rattle.scan.specs.declared.Scan.{Scan}

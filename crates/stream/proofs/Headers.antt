@@ -6,7 +6,7 @@ use Prim.Native.Nat.{ℕ}
 use Rattle.wire.specs.Family.{header}
 use Rattle.wire.specs.declared.Kind.{Kind}
 use Rattle.wire.specs.declared.Kind.the-variants.{Report, Command}
-use Rattle.stream.specs.Scan.{readsLength, reads, opens, wholes}
+use Rattle.stream.proofs.Scan.{readsLength, reads, opens, wholes}
 
 module _ (most : ℕ) where
   pub opens-header : (k : Kind) (r : List ℕ) → opens most (header k ++ r) ≡ readsLength true most k r

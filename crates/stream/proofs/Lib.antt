@@ -1,3 +1,9 @@
+-- Tests that compute, for open strings and for whole frames; their laws; the framing that they make.
+pub mod Scan
+pub mod Laws
+pub mod Link
+-- The decoding and the counting.
+pub mod Decoding
 -- What the tests say of a string behind a header.
 pub mod Headers
 -- What the tests say of a string that begins with a word.
@@ -13,3 +19,7 @@ pub mod Delivered
 pub mod Begins
 -- Where a broken start ends.
 pub mod Traps
+-- The link's protocol is that of the tests.
+pub mod Linked
+-- A byte F4 again and again.
+pub mod Repeated

@@ -15,10 +15,10 @@ use Rattle.wire.specs.declared.Kind.{Kind}
 use Rattle.wire.specs.declared.Kind.the-variants.{Report}
 use Rattle.wire.specs.declared.MaybeKind.{MaybeKind}
 use Rattle.wire.specs.declared.MaybeKind.the-variants.{Some, None}
-use Rattle.stream.specs.Open.{InRange, Prefix, Open, in-header, in-length, in-data, in-tail}
-use Rattle.limit.specs.Length.{inRange}
-use Rattle.stream.specs.Scan.{behind, nothing, readsLength, reads, readsAs, opens}
-use Rattle.stream.specs.Laws.{both-right, opens-prefix}
+use Rattle.stream.specs.Open.{Prefix, Open, in-header, in-length, in-data, in-tail}
+use Rattle.limit.specs.Length.{InRange, inRange}
+use Rattle.stream.proofs.Scan.{behind, nothing, readsLength, reads, readsAs, opens}
+use Rattle.stream.proofs.Laws.{both-right, opens-prefix}
 use Rattle.stream.proofs.Headers.{opens-header}
 use Rattle.stream.proofs.Words.{both-left, both, behind-sound, behind-within, nothing-sound}
 use Rattle.stream.proofs.Words.{range-sound, range-complete}

@@ -16,7 +16,7 @@ use Rattle.wire.specs.declared.Kind.the-variants.{Report, Command}
 use Rattle.wire.specs.declared.MaybeKind.{MaybeKind}
 use Rattle.wire.specs.declared.MaybeKind.the-variants.{Some, None}
 use Rattle.limit.specs.Length.{inRange}
-use Rattle.stream.specs.Scan.{behind, nothing, readsLength, reads, readsAs, opens, wholes}
+use Rattle.stream.proofs.Scan.{behind, nothing, readsLength, reads, readsAs, opens, wholes}
 use Rattle.stream.proofs.Headers.{opens-header, wholes-header}
 
 and-true : (a : Bool) → a && true ≡ a

@@ -11,12 +11,13 @@ use Rattle.number.specs.Number.{little}
 use Rattle.wire.specs.Family.{header, tail}
 use Rattle.wire.proofs.Families.{header-length}
 use Rattle.wire.specs.declared.Kind.{Kind}
-use Rattle.framing.specs.Framing.{Piece, broken}
-use Rattle.framing.specs.Division.{Division, is-broken}
-use Rattle.stream.specs.Open.{InRange}
-use Rattle.stream.specs.Scan.{opens}
-use Rattle.stream.specs.Link.{link}
-use Rattle.stream.specs.Laws.{wholes-ends, opens-prefix}
+use Rattle.framing.proofs.Framing.{Divides}
+use Rattle.framing.specs.Piece.{Piece, broken}
+use Rattle.framing.specs.Division.{is-broken}
+use Rattle.limit.specs.Length.{InRange}
+use Rattle.stream.proofs.Scan.{opens}
+use Rattle.stream.proofs.Link.{link}
+use Rattle.stream.proofs.Laws.{wholes-ends, opens-prefix}
 use Rattle.stream.proofs.Words.{range-sound, range-complete}
 use Rattle.stream.proofs.Steps.{length-opens, length-not-whole, data-opens, tail-opens}
 
@@ -33,8 +34,8 @@ not-empty k r e =
 module _ (most : ℕ) where
   -- A string that a byte continues, and that the byte c does not, is a broken start before c.
   breaks : (s : List ℕ) (b c : ℕ) (t : List ℕ) (ps : List Piece) → s ≢ [] → T (opens most (s ++ (b ∷ [])))
-      → (T (opens most (s ++ (c ∷ []))) → ⊥) → Division (link most) (c ∷ t) ps
-      → Division (link most) (s ++ (c ∷ t)) (broken s ∷ ps)
+      → (T (opens most (s ++ (c ∷ []))) → ⊥) → Divides (link most) (c ∷ t) ps
+      → Divides (link most) (s ++ (c ∷ t)) (broken s ∷ ps)
   breaks s b c t ps e o n d = is-broken e (opens-prefix most s (b ∷ []) o) (λ w. wholes-ends most s b w o) n d
 
   -- A header, a byte and another are open exactly if the two make a length in range.
@@ -48,8 +49,8 @@ module _ (most : ℕ) where
       r (range-sound most n (rw (length-spelled k lo hi, data-opens most k lo hi [] (omega arith)) at o))
 
   pub bad-length : (k : Kind) (lo hi : ℕ) (t : List ℕ) (ps : List Piece) → (InRange most (little (lo ∷ hi ∷ [])) → ⊥)
-      → Division (link most) (hi ∷ t) ps
-      → Division (link most) ((header k ++ (lo ∷ [])) ++ (hi ∷ t)) (broken (header k ++ (lo ∷ [])) ∷ ps)
+      → Divides (link most) (hi ∷ t) ps
+      → Divides (link most) ((header k ++ (lo ∷ [])) ++ (hi ∷ t)) (broken (header k ++ (lo ∷ [])) ∷ ps)
   bad-length k lo hi t ps r d =
       is-broken (not-empty k (lo ∷ [])) (rw (length-opens most k lo) tt) (λ w. rw (length-not-whole most k lo) at w)
       (length-ends k lo hi r) d
@@ -67,8 +68,8 @@ module _ (most : ℕ) where
 
   pub broken-tail : (k : Kind) (lo hi : ℕ) (d : List ℕ) (m c : ℕ) (t : List ℕ) (ps : List Piece)
       → InRange most (little (lo ∷ hi ∷ [])) → length d ≡ little (lo ∷ hi ∷ []) → m < 4 → c ≢ getD (tail k) m 0
-      → Division (link most) (c ∷ t) ps
-      → Division (link most) ((header k ++ (lo ∷ hi ∷ (d ++ take m (tail k)))) ++ (c ∷ t))
+      → Divides (link most) (c ∷ t) ps
+      → Divides (link most) ((header k ++ (lo ∷ hi ∷ (d ++ take m (tail k)))) ++ (c ∷ t))
       (broken (header k ++ (lo ∷ hi ∷ (d ++ take m (tail k)))) ∷ ps)
   broken-tail k lo hi d m c t ps r l u e v =
       let b : ℕ = getD (tail k) m 0 in

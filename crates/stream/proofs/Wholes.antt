@@ -12,10 +12,10 @@ use Rattle.wire.specs.declared.Kind.{Kind}
 use Rattle.wire.specs.declared.Kind.the-variants.{Report, Command}
 use Rattle.wire.specs.declared.MaybeKind.{MaybeKind}
 use Rattle.wire.specs.declared.MaybeKind.the-variants.{Some, None}
-use Rattle.stream.specs.Open.{InRange, Whole}
-use Rattle.limit.specs.Length.{inRange}
-use Rattle.stream.specs.Scan.{behind, nothing, readsLength, reads, readsAs, wholes}
-use Rattle.stream.specs.Laws.{both-right, tail-room}
+use Rattle.stream.specs.Open.{Whole}
+use Rattle.limit.specs.Length.{InRange, inRange}
+use Rattle.stream.proofs.Scan.{behind, nothing, readsLength, reads, readsAs, wholes}
+use Rattle.stream.proofs.Laws.{both-right, tail-room}
 use Rattle.stream.proofs.Headers.{wholes-header}
 use Rattle.stream.proofs.Words.{both-left, both, whole-sound, nothing-sound}
 use Rattle.stream.proofs.Words.{range-sound, range-complete}

@@ -6,10 +6,10 @@ use mathlib.Core.Bool.{Bool, true, false, _&&_}
 use Prim.Native.Nat.{ℕ}
 use native.Mathlib.Omega.{arith}
 use lib.Dec.{T, eqb, leb, eqb→eq, eqb-refl, leb→le, le→leb}
-use Rattle.stream.specs.Open.{InRange, Prefix}
-use Rattle.limit.specs.Length.{inRange}
-use Rattle.stream.specs.Scan.{behind, nothing}
-use Rattle.stream.specs.Laws.{both-right}
+use Rattle.stream.specs.Open.{Prefix}
+use Rattle.limit.specs.Length.{InRange, inRange}
+use Rattle.stream.proofs.Scan.{behind, nothing}
+use Rattle.stream.proofs.Laws.{both-right}
 
 pub both-left : (a b : Bool) → T (a && b) → T a
 both-left true b h = tt

@@ -14,7 +14,7 @@ use Rattle.frame.specs.Frame.{startingAt, noFrame, checkedFrame}
 use Rattle.frame.specs.declared.FrameKind.{FrameKind}
 use Rattle.frame.specs.declared.FrameKind.the-variants as Is
 use Rattle.frame.specs.declared.Frame.{Frame}
-use Rattle.framing.specs.Framing.{Piece}
+use Rattle.framing.specs.Piece.{Piece}
 use Rattle.framing.specs.Tally.{resynced, lost, passed}
 
 abbrev pub Answer : Type 0

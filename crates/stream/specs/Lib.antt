@@ -1,7 +1,8 @@
+-- Which strings are open, and which are whole frames.
 pub mod Open
-pub mod Scan
-pub mod Laws
-pub mod Link
+-- What a whole frame delivers, and what the counters count.
 pub mod Deliver
-pub mod Decoding
+-- The link as demand 3 speaks of it.
+pub mod Protocol
+-- The claims.
 pub mod Claims

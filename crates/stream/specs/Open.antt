@@ -1,18 +1,15 @@
 -- Which strings of the LD2410's link are open and which are whole frames: document 01, "The division of a stream".
---   InRange most n   a length that the stream takes: 2 to the largest, which 01 sets to 54
---   Prefix s t       s is a prefix of t
---   Open most s      01's open
---   Whole most s     01's whole frame
+--   Prefix s t     s is a prefix of t
+--   Open most s    01's open, over the largest length that the stream takes, which 01 sets to 54
+--   Whole most s   01's whole frame
 use mathlib.Core.Path.{_≡_}
 use mathlib.Core.List.{List, [], _∷_, _++_}
 use Prim.Native.Nat.{ℕ, _≤_}
 use lib.ListN.{length}
 use Rattle.number.specs.Number.{little}
+use Rattle.limit.specs.Length.{InRange}
 use Rattle.wire.specs.Family.{header, tail}
 use Rattle.wire.specs.declared.Kind.{Kind}
-
-abbrev pub InRange : ℕ → ℕ → Type 0
-InRange most n = (2 ≤ n) × (n ≤ most)
 
 abbrev pub Prefix : List ℕ → List ℕ → Type 0
 Prefix s t = (r : List ℕ) × (s ++ r ≡ t)

@@ -1,16 +1,30 @@
 // The stream of the LD2410's link: which strings are open and which are whole frames, what a whole frame delivers, and
 // what the counters count. It is definitions and laws, and has no code. Each function here is empty: its contract pins
 // claims of specs/Claims.antt.
-ghost use Rattle.stream.specs.Claims.{OpenTested, WholeTested, WholeFramed, StrayTested};
+ghost use Rattle.stream.specs.Claims.{WholeFramed, StrayBytes};
+ghost use Rattle.stream.specs.Claims.{DividesOnce, DivisionSpelled, DivisionLength, UnfinishedOpen};
+ghost use Rattle.stream.specs.Claims.{DivisionAppend, TotalAppend, EndsForGood, ResyncsBound, ResyncsReached};
 ghost use Rattle.stream.specs.Claims.{BadLength, BrokenTail};
-ghost use Rattle.stream.specs.Claims.{DecodesBody, DeliversBody};
+ghost use Rattle.stream.specs.Claims.{DecodesWhole, DeliversWhole};
 
-// The tests of the framing are document 01's words.
+// A whole frame is what framing its data gives; a stray byte is neither of two.
 pub fn framing_claims()
-    ensures open { λ _. ⌜ OpenTested ⌝ }
-    ensures whole { λ _. ⌜ WholeTested ⌝ }
     ensures framed { λ _. ⌜ WholeFramed ⌝ }
-    ensures stray { λ _. ⌜ StrayTested ⌝ }
+    ensures stray { λ _. ⌜ StrayBytes ⌝ }
+{}
+
+// `once`, `spelled`, `length`, `unfinished`: what a division is. `append`, `total`, `ends`: what more bytes do to it.
+// `bound`, `reached`: how often a stream can break, and that some break so often.
+pub fn division_claims()
+    ensures once { λ _. ⌜ DividesOnce ⌝ }
+    ensures spelled { λ _. ⌜ DivisionSpelled ⌝ }
+    ensures length { λ _. ⌜ DivisionLength ⌝ }
+    ensures unfinished { λ _. ⌜ UnfinishedOpen ⌝ }
+    ensures append { λ _. ⌜ DivisionAppend ⌝ }
+    ensures total { λ _. ⌜ TotalAppend ⌝ }
+    ensures ends { λ _. ⌜ EndsForGood ⌝ }
+    ensures bound { λ _. ⌜ ResyncsBound ⌝ }
+    ensures reached { λ _. ⌜ ResyncsReached ⌝ }
 {}
 
 // Where a broken start ends: document 01's traps of the stream.
@@ -21,6 +35,6 @@ pub fn trap_claims()
 
 // A whole frame decodes, and delivers, as its data do.
 pub fn delivery_claims()
-    ensures decodes { λ _. ⌜ DecodesBody ⌝ }
-    ensures delivers { λ _. ⌜ DeliversBody ⌝ }
+    ensures decodes { λ _. ⌜ DecodesWhole ⌝ }
+    ensures delivers { λ _. ⌜ DeliversWhole ⌝ }
 {}

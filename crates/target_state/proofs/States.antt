@@ -2,7 +2,7 @@
 use mathlib.Core.Path.{_≡_, refl}
 use Prim.Native.Nat.{ℕ, zero, suc, _%_, _≤_}
 use native.Mathlib.Omega.{arith}
-use Rattle.target_state.specs.State.{byBits, stateOf, byteOf}
+use Rattle.target_state.specs.State.{byBits, stateOf, byteOf, stateMax}
 use Rattle.target_state.specs.declared.TargetState.{TargetState}
 use Rattle.target_state.specs.declared.TargetState.the-variants.{None, Moving, Stationary, Both}
 
@@ -24,3 +24,25 @@ state-byte None = refl
 state-byte Moving = refl
 state-byte Stationary = refl
 state-byte Both = refl
+
+-- The byte of a state is at most the largest, and a byte up to it is the byte of its state.
+pub byte-most : (t : TargetState) → byteOf t ≤ stateMax
+byte-most None = omega arith
+byte-most Moving = omega arith
+byte-most Stationary = omega arith
+byte-most Both = omega arith
+
+pub byte-kept : (b : ℕ) → b ≤ stateMax → byteOf (stateOf b) ≡ b
+unfolding stateOf
+byte-kept zero h = refl
+byte-kept (suc zero) h = refl
+byte-kept (suc (suc zero)) h = refl
+byte-kept (suc (suc (suc zero))) h = refl
+byte-kept (suc (suc (suc (suc b)))) h = absurd (omega arith)
+
+-- What the two conversions have to show.
+pub sent-as : {t : TargetState} {b : ℕ} → b ≡ byteOf t → (b ≡ byteOf t) × ((b ≤ stateMax) × (stateOf b ≡ t))
+sent-as {t} e = (e, rw e (byte-most t, state-byte t))
+
+pub read-as : (b : ℕ) {t : TargetState} → t ≡ stateOf b → (t ≡ stateOf b) × (b ≤ stateMax → byteOf t ≡ b)
+read-as b e = (e, λ h. rw e (byte-kept b h))

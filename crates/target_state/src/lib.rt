@@ -1,6 +1,7 @@
 // The target state of a report: which targets the module sees, and the byte that says so.
 ghost use mathlib.Core.Path.{_≡_};
-ghost use Rattle.target_state.specs.State.{stateOf, byteOf, movingOf, stationaryOf, presentOf};
+ghost use Prim.Native.Nat.{_≤_};
+ghost use Rattle.target_state.specs.State.{stateOf, byteOf, stateMax, movingOf, stationaryOf, presentOf};
 
 // What the module currently sees: the state byte of a report.
 pub enum TargetState {
@@ -15,9 +16,11 @@ pub enum TargetState {
 }
 
 impl TargetState {
-    // Decodes the state byte, of which the two lowest bits count.
+    // Decodes the state byte, of which the two lowest bits count. A byte that is sent for a state is what `to_byte`
+    // gives for it.
     pub fn from_byte(byte: u8) -> Self
         ensures decoded { λ r. ⌜ r ≡ stateOf byte ⌝ }
+        ensures kept { λ r. ⌜ (byte ≤ stateMax → byteOf r ≡ byte) ⌝ }
     {
         match byte % 4 {
             0 => TargetState::None,
@@ -27,9 +30,10 @@ impl TargetState {
         }
     }
 
-    // The byte that the module sends for this state.
+    // The byte that the module sends for this state, which is decoded as the state.
     pub fn to_byte(self) -> u8
         ensures encoded { λ r. ⌜ r ≡ byteOf self ⌝ }
+        ensures kept { λ r. ⌜ (r ≤ stateMax) × (stateOf r ≡ self) ⌝ }
     {
         match self {
             TargetState::None => 0,

@@ -1,20 +1,18 @@
--- A frame taken apart: it is cut at the length that it says; and a string that is cut so is the frame around the data.
--- For byte strings this is what the checks F1 to F4 say.
-use mathlib.Core.Path.{_≡_, refl, sym}
+-- A frame taken apart: a string that is cut at the length that it says is the frame around the data. For byte strings
+-- this is what the checks F1 to F4 say.
+use mathlib.Core.Path.{_≡_, sym}
 use mathlib.Core.List.{List, _++_}
 use Prim.Native.Nat.{ℕ, _+_, _≤_}
 use native.Mathlib.Omega.{arith}
 use lib.ListN.{length, take, drop, take-append-drop, length-take, length-drop}
-use lib.Seq.{drop-drop, take-append-seam, drop-append-seam}
+use lib.Seq.{drop-drop}
 use Rattle.number.specs.Bytes.{Bytes}
 use Rattle.number.specs.Number.{little, leBytes}
 use Rattle.wire.specs.Family.{header, tail, headerOf, framed}
 use Rattle.wire.specs.declared.Kind.{Kind}
-use Rattle.wire.specs.declared.Kind.the-variants.{Report, Command}
 use Rattle.wire.specs.declared.MaybeKind.the-variants.{Some}
 use Rattle.wire.proofs.Families.{header-sound}
 use Rattle.put.proofs.Bytes.{bytes-take, bytes-drop, leBytes-little}
-use Rattle.writer.proofs.Frames.{frame-length}
 
 -- The string s begins as a frame of the family k, says n in two bytes, and ends behind n more as the family does.
 pub record Cut (k : Kind) (n : ℕ) (s : List ℕ) : Type 0 where
@@ -38,38 +36,6 @@ module _ (k : Kind) (n : ℕ) (s : List ℕ) where
   unfolding framed
   cut-framed c =
       rw (cut-data (c .inside)) (joined s (header k) (leBytes 2 n) (tail k) n (c .begins) (c .says) (c .ends))
-
--- The frame around the data d, whatever the family.
-module _ (d : List ℕ) where
-  framed-begins : (k : Kind) → take 4 (framed k d) ≡ header k
-  unfolding framed
-  framed-begins Report = refl
-  framed-begins Command = refl
-
-  framed-says : (k : Kind) → take 2 (drop 4 (framed k d)) ≡ leBytes 2 (length d)
-  unfolding framed
-  framed-says Report = refl
-  framed-says Command = refl
-
-  pub framed-behind : (k : Kind) → drop 6 (framed k d) ≡ d ++ tail k
-  unfolding framed
-  framed-behind Report = refl
-  framed-behind Command = refl
-
-  framed-ends : (k : Kind) → drop (6 + length d) (framed k d) ≡ tail k
-  framed-ends k = rw (← drop-drop (length d) 6 (framed k d), framed-behind k) (drop-append-seam d (tail k))
-
-  pub framed-cut : (k : Kind) → Cut k (length d) (framed k d)
-  framed-cut k = record {
-    begins = framed-begins k;
-    says = framed-says k;
-    inside = omega (arith, frame-length k d);
-    ends = framed-ends k;
-  }
-
-  -- The data come back.
-  pub framed-data : (k : Kind) → take (length d) (drop 6 (framed k d)) ≡ d
-  framed-data k = rw (framed-behind k) (take-append-seam d (tail k))
 
 -- A byte string of which F1 to F4 hold is cut at the length that it says.
 module _ (k : Kind) (s : List ℕ) where

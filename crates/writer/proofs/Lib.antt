@@ -6,3 +6,5 @@ pub mod Writers
 pub mod Frames
 -- A frame taken apart.
 pub mod Framing
+-- From the frame of a value to every buffer that it is written into.
+pub mod RoundTrip

@@ -1,5 +1,6 @@
 -- What a writer answers and leaves, by its three cases, and that each number has its cause.
 use mathlib.Core.Path.{_≡_, refl, sym}
+use mathlib.Core.Logic.{inl, inr}
 use mathlib.Core.List.{List}
 use mathlib.Core.Bool.{Bool, true, false}
 use mathlib.Core.Option.{Option, none, some}
@@ -8,9 +9,10 @@ use native.Mathlib.Omega.{arith}
 use lib.Dec.{leb}
 use lib.ListN.{length}
 use borrow.Author.Tests.{le-leb, lt-leb, leb-true, leb-false}
-use Rattle.refusal.specs.Refusal.{numberOf}
+use Rattle.refusal.specs.Refusal.{numberOf, neededOf}
 use Rattle.refusal.specs.declared.Error.{Error}
-use Rattle.refusal.specs.declared.Error.the-variants.{BufferTooSmall}
+use Rattle.refusal.specs.declared.Error.the-variants.{InvalidFormat, Unsupported, Hardware, BufferTooSmall}
+use Rattle.refusal.specs.declared.Error.the-variants.{UnknownCommand, Unrepresentable}
 use Rattle.writer.specs.Written.{written, unless, answered, changed, answerOf, bufferAfter, WriteCauses}
 use Rattle.writer.specs.declared.WriteResult.{WriteResult}
 use Rattle.writer.specs.declared.WriteResult.the-variants.{Ok, Err}
@@ -57,6 +59,15 @@ module _ (f out left : List ℕ) (n : ℕ) where
   wrote-all none h = all-by-length (leb (length f) (length out)) refl (h .0) (h .1)
   wrote-all (some e) h = let t = h .0 in let z : _≡_ {A = ℕ} 0 1 = cc in absurd (omega arith)
 
+-- Bytes needed stand beside 4 alone.
+needed-none : (e : Error) → (numberOf e ≡ 4 → ⊥) → neededOf e ≡ 0
+needed-none InvalidFormat h = refl
+needed-none Unsupported h = refl
+needed-none Hardware h = refl
+needed-none (BufferTooSmall n) h = absurd (h refl)
+needed-none UnknownCommand h = refl
+needed-none Unrepresentable h = refl
+
 -- A writer that refuses with e, unless its value is good, gives each number exactly in its cause.
 module _ (e : Error) (e-apart : numberOf e ≡ 4 → ⊥) (e-some : numberOf e ≡ 0 → ⊥) (f : List ℕ) (n : ℕ) where
   abbrev Caused : Bool → WriteResult → Type 0
@@ -70,7 +81,7 @@ module _ (e : Error) (e-apart : numberOf e ≡ 4 → ⊥) (e-some : numberOf e �
     accepted = (λ z. absurd (e-some z), λ h. absurd (h .0 refl));
     refused = (λ z. refl, λ h. refl);
     short = (λ z. absurd (e-apart z), λ h. absurd (h .0 refl));
-    needed = λ z. absurd (e-apart z);
+    returned = inr (inl (rw (needed-none e e-apart)));
   }
 
   caused-short : n < length f → Caused true (Err (BufferTooSmall (length f)))
@@ -78,7 +89,7 @@ module _ (e : Error) (e-apart : numberOf e ≡ 4 → ⊥) (e-some : numberOf e �
     accepted = (λ z. absurd (omega arith), λ k. absurd (omega arith));
     refused = (λ z. absurd (e-apart (sym z)), λ k. absurd (good-not-bad k));
     short = (λ z. (good-not-bad, h), λ k. refl);
-    needed = λ z. refl;
+    returned = inr (inr refl);
   }
 
   caused-whole : length f ≤ n → Caused true (Ok (length f))
@@ -86,7 +97,7 @@ module _ (e : Error) (e-apart : numberOf e ≡ 4 → ⊥) (e-some : numberOf e �
     accepted = (λ z. (good-not-bad, h), λ k. refl);
     refused = (λ z. absurd (e-some (sym z)), λ k. absurd (good-not-bad k));
     short = (λ z. absurd (omega arith), λ k. absurd (omega arith));
-    needed = λ z. absurd (omega arith);
+    returned = inl refl;
   }
 
   caused-good : (b : Bool) → leb (length f) n ≡ b

@@ -5,18 +5,21 @@
 --                             one; else 4, with the bytes needed, where f is longer
 --   answerOf w f n            the answer: the bytes written, or that refusal
 --   bufferAfter w f out       the buffer left: with f written, or as it was
---   numberOfWrite r           the number of an answer's refusal, 0 where nothing is refused
---   WriteCauses k Bad f n r   each number is given by the answer r exactly in its cause: k to a bad value
---   framable d, frameRefusal d   "that many data bytes, 0 to 65,535": no length can say more
+--   returnedWrite r           what the answer r returns, by document 01's table
+--   numberOfWrite r           its number, 0 where nothing is refused
+--   WriteCauses k Bad f n r   each number is given by the answer r exactly in its cause, k to a bad value; and what is
+--                             returned beside it
+--   framable d, frameRefusal d   "that many data bytes, 0 to 65,535": no length can say more. This refusal is not in
+--                                document 01's table: no writer of the link frames so much
 use mathlib.Core.Path.{_≡_}
-use mathlib.Core.Logic.{_↔_}
+use mathlib.Core.Logic.{_↔_, _⊎_}
 use mathlib.Core.List.{List, _++_}
 use mathlib.Core.Bool.{Bool, true, false}
 use mathlib.Core.Option.{Option, none, some}
 use Prim.Native.Nat.{ℕ, _≤_, _<_}
 use lib.Dec.{leb}
 use lib.ListN.{length, drop}
-use Rattle.refusal.specs.Refusal.{numberOf}
+use Rattle.refusal.specs.Refusal.{Returned, accepted, refused}
 use Rattle.refusal.specs.declared.Error.{Error}
 use Rattle.refusal.specs.declared.Error.the-variants.{BufferTooSmall, Unrepresentable}
 use Rattle.writer.specs.declared.WriteResult.{WriteResult}
@@ -53,15 +56,22 @@ framable d = leb (length d) 65535
 abbrev pub frameRefusal : List ℕ → Option Error
 frameRefusal d = unless (framable d) Unrepresentable
 
+-- "number, other fields 0", "number and bytes needed": no bytes are told as written beside a refusal
+abbrev pub returnedWrite : WriteResult → Returned ℕ
+returnedWrite (Ok n) = accepted n
+returnedWrite (Err e) = refused 0 e
+
 abbrev pub numberOfWrite : WriteResult → ℕ
-numberOfWrite (Ok n) = 0
-numberOfWrite (Err e) = numberOf e
+numberOfWrite r = returnedWrite r .number
 
 pub record WriteCauses (k : ℕ) (Bad : Type 0) (f : List ℕ) (n : ℕ) (r : WriteResult) : Type 0 where
   -- nothing is refused exactly if the value is good and the frame fits
   pub accepted : numberOfWrite r ≡ 0 ↔ (Bad → ⊥) × (length f ≤ n)
   -- the value's number is given exactly if it is bad, whatever the buffer
   pub refused : numberOfWrite r ≡ k ↔ Bad
-  -- 4, with the bytes needed, is given exactly if the value is good and the buffer is shorter than the frame
+  -- 4 is given exactly if the value is good and the buffer is shorter than the frame
   pub short : numberOfWrite r ≡ 4 ↔ (Bad → ⊥) × (n < length f)
-  pub needed : numberOfWrite r ≡ 4 → r ≡ Err (BufferTooSmall (length f))
+  -- nothing else is returned than the bytes written; or that number, "other fields 0"; or 4 "and bytes needed"
+  pub returned : (returnedWrite r ≡ record { number = 0; needed = 0; value = length f })
+      ⊎ ((returnedWrite r ≡ record { number = k; needed = 0; value = 0 })
+      ⊎ (returnedWrite r ≡ record { number = 4; needed = length f; value = 0 }))

@@ -1,6 +1,6 @@
 -- `command_reader::baud_for` meets its contract. Assumes nothing.
 use mathlib.Core.Path.{sym, _∙_}
-use Rattle.command_reader.specs.Read.{baudFor}
+use Rattle.command_reader.specs.Candidate.{baudFor}
 use borrow.Author.Needs.{needs}
 use Rattle.command_reader.proofs.baud_for.Statement.{statement}
 use Rattle.command_reader.proofs.baud_for.Tie as tie

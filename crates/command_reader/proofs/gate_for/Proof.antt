@@ -1,6 +1,6 @@
 -- `command_reader::gate_for` meets its contract. Assumes nothing.
 use borrow.Author.Tests.{eq-eqb, ne-eqb}
-use Rattle.command_reader.specs.Read.{gateFor}
+use Rattle.command_reader.specs.Candidate.{gateFor}
 use borrow.Author.Needs.{needs}
 use Rattle.command_reader.proofs.gate_for.Statement.{statement}
 use Rattle.command_reader.proofs.gate_for.Tie as tie

@@ -30,4 +30,5 @@ make-records-spec 𝓤 H 𝓜 𝓖 𝓡 =
     let at-u16 = code.calls-cursor·Cursor·u16 in
     let at-record = code.calls-cursor·Cursor·record in
     maker row calls 𝓤 H 𝓜 𝓖 𝓡 code.env key.name (code.unfolded 𝓤 H 𝓜 𝓡) code.calls-cursor·Cursor·new
+    code.calls-maker·whole
     (at-put, (at-u16, (at-u16, (at-record, (at-record, (at-record, (at-put, tt)))))))

@@ -10,11 +10,11 @@ settled-requires : tie.Need-settled-requires
 settled-requires c κs = search needs
 
 progress-requires : tie.Need-progress-requires
-progress-requires c κs = rw (c .settled .ensures) (settled-order _ _)
+progress-requires c κs = rw (c .settled .ensures .0) (settled-order _ _)
 
 returns : tie.Need-returns
 unfolding unfinishedBy
-returns c = c .progress .ensures ∙ rw (c .before .settled .ensures)
+returns c = c .progress .ensures ∙ rw (c .before .settled .ensures .0)
 
 pub unfinished-spec : {M : Type 1} → statement M
 unfinished-spec = tie.close (tie.spec settled-requires progress-requires returns)

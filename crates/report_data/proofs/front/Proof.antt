@@ -43,7 +43,7 @@ returns c =
     let detection = c .before .before in
     rw (
       c .before .data-type .ensures,
-      c .to-byte .ensures,
+      c .to-byte .ensures .0,
       detection .before .before .u16-bytes .ensures,
       detection .before .u16-bytes2 .ensures,
       detection .u16-bytes3 .ensures,

@@ -11,8 +11,7 @@ use Rattle.report_data.specs.Data.{reportData}
 use Rattle.writable.specs.Writable.{writable}
 use Rattle.report_data.proofs.Typed.{TypedReport, report-typed}
 use Rattle.report_data.proofs.Puts.{laid-flag, data-laid}
-use Rattle.report_writer.proofs.Answers.{complete}
-use Rattle.report_writer.proofs.Writing.{answered-refused, answered-framed}
+use Rattle.report_writer.proofs.Answers.{answered-refused, answered-framed}
 use Rattle.report_writer.proofs.write_report.Statement.{statement}
 use Rattle.report_writer.proofs.write_report.Tie as tie
 
@@ -40,8 +39,7 @@ returns c =
     let start = c .before .before .before .before in
     let a = start .args in
     let bad = laid-flag (a .report) _ (c .before .before .lay .ensures) ∙ not-true _ (c .if1 .taken) in
-    complete (a .report) (typed start) (a .out .now) (a .out .now) _
-    (answered-refused (a .report) (a .out .now) (a .out .now) refl bad)
+    answered-refused (a .report) (typed start) (a .out .now) (a .out .now) refl bad
 
 array-share-prefix-data : tie.Need-array-share-prefix-data
 array-share-prefix-data c = laid (c .before .before) .0
@@ -59,10 +57,8 @@ returns-2 : tie.Need-returns-2
 returns-2 c =
     let past = c .before .before .before .before .before .before in
     let a = start past .args in
-    let t = typed (start past) in
-    complete (a .report) t (a .out .now) _ _
-    (answered-framed (a .report) (a .out .now) _ _ _ (laid past .1) t (good past)
-    (c .before .before .put-frame .ensures))
+    answered-framed (a .report) (typed (start past)) (a .out .now) _ _ _ (laid past .1) (good past)
+    (c .before .before .put-frame .ensures)
 
 pub write-report-spec : {M : Type 1} → statement M
 write-report-spec =

@@ -8,14 +8,14 @@ settled-requires : tie.Need-settled-requires
 settled-requires c κs = search needs
 
 store-requires : tie.Need-store-requires
-store-requires c κs = rw (c .before .settled .ensures) (settled-order _ _)
+store-requires c κs = rw (c .before .settled .ensures .0) (settled-order _ _)
 
 step-requires : tie.Need-step-requires
-step-requires c κs = rw (c .before .before .settled .ensures) (settled-order _ _)
+step-requires c κs = rw (c .before .before .settled .ensures .0) (settled-order _ _)
 
 returns : tie.Need-returns
 returns c =
-    let settled = c .before .before .before .settled .ensures in
+    let settled = c .before .before .before .settled .ensures .0 in
     (rw (c .step .ensures, settled), rw (c .before .store .ensures, settled))
 
 pub step-at-spec : {M : Type 1} → statement M

@@ -1,12 +1,49 @@
--- `stream::delivery_claims` pins what Delivered proves. Assumes nothing.
-use Rattle.stream.specs.Claims.{DecodesBody, DeliversBody}
+-- `stream::delivery_claims`: a whole frame is what framing its data gives, and Delivered proves the claims of that.
+-- Assumes nothing.
+use mathlib.Core.Path.{_≡_, refl, sym, ap, _∙_}
+use mathlib.Core.Logic.{_↔_}
+use mathlib.Core.List.{List}
+use mathlib.Core.Bool.{true}
+use Prim.Native.Nat.{ℕ}
+use native.Mathlib.Omega.{arith}
+use Rattle.refusal.specs.Check.{Checks, firstFailed, Passes}
+use Rattle.refusal.proofs.Checks.{passes-sound, passes-complete}
+use Rattle.refusal.specs.declared.MaybeCheck.{MaybeCheck}
+use Rattle.refusal.specs.declared.MaybeCheck.the-variants as Maybe
+use Rattle.frame.specs.Frame.{bodyChecks}
+use Rattle.stream.specs.Deliver.{holds, decodes, delivered}
+use Rattle.stream.specs.Claims.{DecodesWhole, DeliversWhole}
+use Rattle.stream.proofs.Begins.{whole-spelled, whole-short}
 use Rattle.stream.proofs.Delivered.{decodes-framed, delivered-framed}
 use Rattle.stream.proofs.delivery_claims.Statement.{statement}
 use Rattle.stream.proofs.delivery_claims.Tie as tie
 
+-- No check fails first exactly if every check holds.
+none-failed : (o : MaybeCheck) → holds o ≡ true → o ≡ Maybe.None
+none-failed (Maybe.Some c) e = let z : _≡_ {A = ℕ} 0 1 = cc in absurd (omega arith)
+none-failed Maybe.None e = refl
+
+holds-passes : (cs : Checks) (d : List ℕ) → (holds (firstFailed cs d) ≡ true) ↔ Passes cs d
+holds-passes cs d = (
+  (λ e. passes-sound d cs (none-failed (firstFailed cs d) e)),
+  (λ p. ap holds (passes-complete d cs p)),
+)
+
+decodes-whole : DecodesWhole
+unfolding DecodesWhole
+decodes-whole most s w bytes =
+    let short = whole-short most s bytes w in
+    let e = ap decodes (whole-spelled most s bytes w) ∙ decodes-framed (w .kind) (w .held) short in
+    let p = holds-passes (bodyChecks (w .kind)) (w .held) in
+    ((λ d. p .0 (sym e ∙ d)), (λ h. e ∙ p .1 h))
+
+delivers-whole : DeliversWhole
+unfolding DeliversWhole
+delivers-whole most s w r bytes = ap delivered (whole-spelled most s bytes w)
+    ∙ delivered-framed (w .held) r (w .kind) (whole-short most s bytes w)
+
 returns : tie.Need-returns
-unfolding DecodesBody DeliversBody
-returns c = (λ k d l. decodes-framed k d l, λ k d r l. delivered-framed d r k l)
+returns c = (decodes-whole, delivers-whole)
 
 pub delivery-claims-spec : {M : Type 1} → statement M
 delivery-claims-spec = tie.close (tie.spec returns)

@@ -1,17 +1,32 @@
 -- `ack::Ack::enable_config` meets its contract, by what `expect` answers. Assumes nothing.
 use borrow.Author.Needs.{needs}
-use mathlib.Core.Path.{refl, sym, _∙_}
-use Rattle.reply.specs.Replies.{enableConfigReply, enableConfigAs, outcomeOfEnableConfig}
+use mathlib.Core.Path.{refl}
+use Rattle.reply.specs.Replies.{enableConfigReply, noEnableConfig, enableConfigAs, returnedEnableConfig}
 use Rattle.ack.proofs.Awaiting.{replied-read, replied-refused}
-use Rattle.reply.proofs.Answers.{enable-config-outcome}
+use Rattle.reply.proofs.Answers.{enable-config-returned}
 use Rattle.ack.proofs.Ack.enable_config.Statement.{statement}
 use Rattle.ack.proofs.Ack.enable_config.Tie as tie
 
 expect-requires : tie.Need-expect-requires
 expect-requires c κs = search needs
 
-enum-known-span : tie.Need-enum-known-span
-enum-known-span c = search needs
+enum-known-awaited : tie.Need-enum-known-awaited
+enum-known-awaited c = search needs
+
+enum-told : tie.Need-enum-told
+enum-told c = search needs
+
+error-requires : tie.Need-error-requires
+error-requires c κs = search needs
+
+returns : tie.Need-returns
+returns c =
+    let at-told = c .before in
+    replied-refused noEnableConfig enableConfigAs returnedEnableConfig enable-config-returned enableConfigReply _ _
+    (at-told .before .before .expect .ensures .0)
+    (at-told .enum-told .given .1)
+    (c .error .ensures)
+    refl
 
 payload-requires : tie.Need-payload-requires
 payload-requires c κs = search needs
@@ -19,29 +34,24 @@ payload-requires c κs = search needs
 read-requires : tie.Need-read-requires
 read-requires c κs = search needs
 
-enum-known-error : tie.Need-enum-known-error
-enum-known-error c = search needs
-
-returns : tie.Need-returns
-returns c =
-    replied-read enableConfigAs outcomeOfEnableConfig enable-config-outcome enableConfigReply _ _
-    (sym (c .before .before .before .before .before .expect .ensures .0) ∙ c .before .before .before .span .given .1)
-    (c .before .payload .ensures)
-    (c .read .ensures)
-
 returns-2 : tie.Need-returns-2
 returns-2 c =
-    replied-refused enableConfigAs outcomeOfEnableConfig enable-config-outcome enableConfigReply _ _
-    (sym (c .before .before .before .expect .ensures .0) ∙ c .before .error .given .1) refl
+    let at-awaited = c .before .before .before in
+    replied-read noEnableConfig enableConfigAs returnedEnableConfig enable-config-returned enableConfigReply _ _
+    (at-awaited .before .before .expect .ensures .0)
+    (at-awaited .awaited .given .1)
+    (c .before .payload .ensures)
+    (c .read .ensures)
 
 pub enable-config-spec : {M : Type 1} → statement M
 enable-config-spec =
     tie.close
     (tie.spec
     expect-requires
-    enum-known-span
+    enum-known-awaited
+    enum-told
+    error-requires
+    returns
     payload-requires
     read-requires
-    enum-known-error
-    returns
     returns-2)

@@ -1,17 +1,34 @@
 -- `ack::Ack::parameters` meets its contract, by what `expect` answers. Assumes nothing.
 use borrow.Author.Needs.{needs}
-use mathlib.Core.Path.{sym, _∙_}
-use Rattle.parameters.specs.Parameters.{parametersReply, parametersAs}
+use Rattle.parameters.specs.Parameters.{parametersReply, noParameters, parametersAs, returnedParameters}
 use Rattle.ack.proofs.Awaiting.{replied-read, replied-refused}
-use Rattle.parameters.proofs.Sensitivities.{parameters-outcome}
+use Rattle.parameters.proofs.Sensitivities.{parameters-returned}
 use Rattle.ack.proofs.Ack.parameters.Statement.{statement}
 use Rattle.ack.proofs.Ack.parameters.Tie as tie
 
 expect-requires : tie.Need-expect-requires
 expect-requires c κs = search needs
 
-enum-known-span : tie.Need-enum-known-span
-enum-known-span c = search needs
+enum-known-awaited : tie.Need-enum-known-awaited
+enum-known-awaited c = search needs
+
+enum-told : tie.Need-enum-told
+enum-told c = search needs
+
+error-requires : tie.Need-error-requires
+error-requires c κs = search needs
+
+refused-requires : tie.Need-refused-requires
+refused-requires c κs = search needs
+
+returns : tie.Need-returns
+returns c =
+    let at-told = c .before .before in
+    replied-refused noParameters parametersAs returnedParameters parameters-returned parametersReply _ _
+    (at-told .before .before .expect .ensures .0)
+    (at-told .enum-told .given .1)
+    (c .before .error .ensures)
+    (c .refused .ensures)
 
 payload-requires : tie.Need-payload-requires
 payload-requires c κs = search needs
@@ -19,34 +36,25 @@ payload-requires c κs = search needs
 read-requires : tie.Need-read-requires
 read-requires c κs = search needs
 
-enum-known-error : tie.Need-enum-known-error
-enum-known-error c = search needs
-
-refused-requires : tie.Need-refused-requires
-refused-requires c κs = search needs
-
-returns : tie.Need-returns
-returns c =
-    replied-read parametersAs (λ r. r .outcome) parameters-outcome parametersReply _ _
-    (sym (c .before .before .before .before .before .expect .ensures .0) ∙ c .before .before .before .span .given .1)
-    (c .before .payload .ensures)
-    (c .read .ensures)
-
 returns-2 : tie.Need-returns-2
 returns-2 c =
-    replied-refused parametersAs (λ r. r .outcome) parameters-outcome parametersReply _ _
-    (sym (c .before .before .before .before .expect .ensures .0) ∙ c .before .before .error .given .1)
-    (c .refused .ensures)
+    let at-awaited = c .before .before .before in
+    replied-read noParameters parametersAs returnedParameters parameters-returned parametersReply _ _
+    (at-awaited .before .before .expect .ensures .0)
+    (at-awaited .awaited .given .1)
+    (c .before .payload .ensures)
+    (c .read .ensures)
 
 pub parameters-spec : {M : Type 1} → statement M
 parameters-spec =
     tie.close
     (tie.spec
     expect-requires
-    enum-known-span
-    payload-requires
-    read-requires
-    enum-known-error
+    enum-known-awaited
+    enum-told
+    error-requires
     refused-requires
     returns
+    payload-requires
+    read-requires
     returns-2)

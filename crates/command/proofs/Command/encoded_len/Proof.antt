@@ -1,7 +1,7 @@
 -- `command::Command::encoded_len` meets its contract. Assumes nothing.
 use native.Mathlib.Omega.{arith}
 use Rattle.request.proofs.Makers.{value-short}
-use Rattle.command.proofs.Frames.{frame-size}
+use Rattle.command.proofs.Frames.{frame-sizes}
 use borrow.Author.Needs.{needs}
 use Rattle.command.proofs.Command.encoded_len.Statement.{statement}
 use Rattle.command.proofs.Command.encoded_len.Tie as tie
@@ -20,8 +20,8 @@ add-result-2 c = omega (arith, c .len .ensures, value-short (c .before .value .r
 
 returns : tie.Need-returns
 returns c =
-    let e = rw (c .before .value .ensures) at (c .len .ensures) in
-    omega (arith, e, frame-size (c .before .before .args .self))
+    let told = rw (c .before .value .ensures) at (c .len .ensures) in
+    frame-sizes (c .before .before .args .self) _ (omega (arith, told))
 
 pub encoded-len-spec : {M : Type 1} → statement M
 encoded-len-spec = tie.close (tie.spec add-result value-requires len-requires add-result-2 returns)

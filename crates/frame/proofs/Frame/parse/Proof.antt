@@ -1,5 +1,5 @@
 use Rattle.frame.specs.Frame.{parsedFrame}
-use Rattle.frame.proofs.Answers.{parsed-causes}
+use Rattle.frame.proofs.Answers.{parsed-whole}
 use borrow.Author.Needs.{needs}
 use Rattle.frame.proofs.Frame.parse.Statement.{statement}
 use Rattle.frame.proofs.Frame.parse.Tie as tie
@@ -14,7 +14,7 @@ returns : tie.Need-returns
 unfolding parsedFrame
 returns c =
     let read = c .before .before .checked .ensures in
-    (rw (c .outcome .ensures, read), rw (c .outcome .ensures, read) (parsed-causes _))
+    parsed-whole _ (rw (c .outcome .ensures, read))
 
 pub parse-spec : {M : Type 1} → statement M
 parse-spec = tie.close (tie.spec checked-requires outcome-requires returns)

@@ -3,8 +3,7 @@
 use mathlib.Core.Path.{sym, _∙_}
 use borrow.Author.Needs.{needs}
 use native.Mathlib.Omega.{arith}
-use Rattle.number.proofs.Numbers.{byte-none}
-use Rattle.number.proofs.Numbers.{byte-is}
+use Rattle.number.proofs.Numbers.{byte-some, byte-none, byte-is}
 use Rattle.gates.proofs.Counts.{gates-unfit, gates-read}
 use Rattle.gates.proofs.Gates.read.Statement.{statement}
 use Rattle.gates.proofs.Gates.read.Tie as tie
@@ -62,19 +61,30 @@ returns-4 c =
     byte-is _ 1 (at-stationary .before .before .byte-at2 .ensures) (at-stationary .max-stationary-gate .given .1) in
     sym (gates-unfit _ (λ h. omega arith))
 
-add-if3 : tie.Need-add-if3
-add-if3 c = search needs
+add-byte-at : tie.Need-add-byte-at
+add-byte-at c = search needs
 
-add-if3-2 : tie.Need-add-if3-2
-add-if3-2 c = search needs
+add-byte-at-2 : tie.Need-add-byte-at-2
+add-byte-at-2 c = search needs
+
+byte-at-requires-3 : tie.Need-byte-at-requires-3
+byte-at-requires-3 c κs = search needs
+
+enum-told-3 : tie.Need-enum-told-3
+enum-told-3 c = search needs
+
+enum-told-4 : tie.Need-enum-told-4
+enum-told-4 c = search needs
 
 returns-5 : tie.Need-returns-5
 returns-5 c =
-    let at-stationary = c .before .before .before .before in
+    let at-last = c .before .before in
+    let at-stationary = at-last .before .before .before .before in
     let at-moving = at-stationary .before .before .before .before in
     let x = byte-is _ 0 (at-moving .before .before .byte-at .ensures) (at-moving .max-moving-gate .given .1) in
     let y =
     byte-is _ 1 (at-stationary .before .before .byte-at2 .ensures) (at-stationary .max-stationary-gate .given .1) in
+    let none = byte-none _ _ (sym (at-last .byte-at3 .ensures) ∙ c .enum-told4 .given .1) in
     sym (gates-unfit _ (λ h. omega arith))
 
 add-t12 : tie.Need-add-t12
@@ -85,11 +95,13 @@ add-t13 c = search needs
 
 returns-6 : tie.Need-returns-6
 returns-6 c =
-    let at-stationary = c .before .before .before .before in
+    let at-last = c .before .before in
+    let at-stationary = at-last .before .before .before .before in
     let at-moving = at-stationary .before .before .before .before in
     let x = byte-is _ 0 (at-moving .before .before .byte-at .ensures) (at-moving .max-moving-gate .given .1) in
     let y =
     byte-is _ 1 (at-stationary .before .before .byte-at2 .ensures) (at-stationary .max-stationary-gate .given .1) in
+    let last = byte-some _ _ _ (sym (at-last .byte-at3 .ensures) ∙ c .enum-told3 .given .1) .inside in
     sym (gates-read _
     (record { counts = omega arith; moving = omega arith; stationary = omega arith; energies = omega arith })
     x
@@ -113,8 +125,11 @@ read-spec =
     add-stationary-gates
     returns-3
     returns-4
-    add-if3
-    add-if3-2
+    add-byte-at
+    add-byte-at-2
+    byte-at-requires-3
+    enum-told-3
+    enum-told-4
     returns-5
     add-t12
     add-t13

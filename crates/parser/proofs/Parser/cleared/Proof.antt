@@ -4,6 +4,7 @@ use mathlib.Core.Path.{refl}
 use native.Mathlib.Omega.{arith}
 use lib.ListN.{length-map}
 use borrow.Author.Needs.{needs}
+use Rattle.limit.specs.Length.{linkMost}
 use Rattle.parser.proofs.Feeding.{Valid}
 use Rattle.parser.proofs.Demand.{reset-claims, reset-first}
 use Rattle.parser.proofs.Parser.cleared.Statement.{statement}
@@ -15,7 +16,7 @@ hunting-requires c κs = search needs
 returns : tie.Need-returns
 returns c =
     let p = c .before .before .before .args .self in
-    let valid : Valid 54 p = record {
+    let valid : Valid linkMost p = record {
       room = omega (arith, length-map (p .buf) (λ v. v), c .before .before .before .good .0 .1 .1 .0 .1 .0 .1);
       capped = record { frames = omega arith; resyncs = omega arith; dropped = omega arith; malformed = omega arith };
     } in

@@ -2,6 +2,9 @@
 -- Assumes nothing.
 use Rattle.limit.specs.Length.{linkMost}
 use Rattle.parser.specs.Feed.{feedSliceOf}
+use Rattle.parser.specs.Claims.{FromAny}
+use Rattle.parser.proofs.Demand.{from-any}
+use Rattle.parser.proofs.Memory.{valid}
 use Rattle.parser.proofs.Extra.{bytes}
 use Rattle.parser.proofs.Answers.{taken-told, taken-handed}
 use Rattle.parser.proofs.LocalFeed.{local-feed}
@@ -15,5 +18,5 @@ pub fed-slice-spec : {M : Type 1} → stated.statement M
 unfolding code.routine
 fed-slice-spec 𝓤 H 𝓜 𝓖 𝓡 =
     local-feed bytes taken-told taken-handed (feedSliceOf linkMost)
-    𝓤 H 𝓜 𝓖 𝓡 code.env key.name g.name (code.unfolded 𝓤 H 𝓜 𝓡)
+    FromAny (λ h is. from-any h (valid h is)) 𝓤 H 𝓜 𝓖 𝓡 code.env key.name g.name (code.unfolded 𝓤 H 𝓜 𝓡)
     g.routine code.calls-parser·Parser·feed-slice (g-thm.met 𝓤 H 𝓜 𝓖 𝓡)

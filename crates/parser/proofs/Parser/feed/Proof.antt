@@ -2,6 +2,9 @@
 use Rattle.limit.specs.Length.{linkMost}
 use Rattle.feeding.specs.Moved.{movedOf, bufOf}
 use Rattle.parser.specs.Feed.{feedOf}
+use Rattle.parser.specs.Claims.{FromAny}
+use Rattle.parser.proofs.Demand.{from-any}
+use Rattle.parser.proofs.Memory.{valid}
 use Rattle.parser.proofs.Extra.{byte}
 use Rattle.parser.proofs.Answers.{frame-told, frame-moved}
 use Rattle.parser.proofs.LentFeed.{lent-feed}
@@ -15,5 +18,5 @@ pub feed-spec : {M : Type 1} → stated.statement M
 unfolding code.routine feedOf
 feed-spec 𝓤 H 𝓜 𝓖 𝓡 =
     lent-feed byte frame-told frame-moved (λ s t xs b. movedOf linkMost s t xs b) (λ s t xs b. bufOf linkMost s xs b)
-    𝓤 H 𝓜 𝓖 𝓡 code.env key.name g.name (code.unfolded 𝓤 H 𝓜 𝓡)
+    FromAny (λ h is. from-any h (valid h is)) 𝓤 H 𝓜 𝓖 𝓡 code.env key.name g.name (code.unfolded 𝓤 H 𝓜 𝓡)
     g.routine code.calls-feeding·feed-at (g-thm.met 𝓤 H 𝓜 𝓖 𝓡)

@@ -3,6 +3,9 @@
 use Rattle.limit.specs.Length.{linkMost}
 use Rattle.feeding.specs.Moved.{sliceMovedOf, sliceBufOf}
 use Rattle.parser.specs.Feed.{feedSliceOf}
+use Rattle.parser.specs.Claims.{FromAny}
+use Rattle.parser.proofs.Demand.{from-any}
+use Rattle.parser.proofs.Memory.{valid}
 use Rattle.parser.proofs.Extra.{bytes}
 use Rattle.parser.proofs.Answers.{taken-told, taken-moved}
 use Rattle.parser.proofs.LentFeed.{lent-feed}
@@ -16,5 +19,5 @@ pub feed-slice-spec : {M : Type 1} → stated.statement M
 unfolding code.routine feedSliceOf
 feed-slice-spec 𝓤 H 𝓜 𝓖 𝓡 =
     lent-feed bytes taken-told taken-moved (sliceMovedOf linkMost) (sliceBufOf linkMost)
-    𝓤 H 𝓜 𝓖 𝓡 code.env key.name g.name (code.unfolded 𝓤 H 𝓜 𝓡)
+    FromAny (λ h is. from-any h (valid h is)) 𝓤 H 𝓜 𝓖 𝓡 code.env key.name g.name (code.unfolded 𝓤 H 𝓜 𝓡)
     g.routine code.calls-feeding·feed-slice-at (g-thm.met 𝓤 H 𝓜 𝓖 𝓡)

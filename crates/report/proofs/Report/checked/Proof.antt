@@ -1,6 +1,9 @@
 -- `report::Report::checked` meets its contract: a check of the layout fails, or `completed` answers for the rest.
 -- Assumes nothing.
 use mathlib.Core.Path.{sym, _∙_}
+use Prim.Native.Nat.{_≤_}
+use lib.ListN.{length}
+use denote.Ref.{now}
 use borrow.Author.Needs.{needs}
 use native.Mathlib.Omega.{arith}
 use Rattle.layout.proofs.Layouts.{layout-is, data-long, block-part}
@@ -8,26 +11,42 @@ use Rattle.report.proofs.Answers.{layout-fails, completes}
 use Rattle.report.proofs.Report.checked.Statement.{statement}
 use Rattle.report.proofs.Report.checked.Tie as tie
 
+-- Where the layout is read, the data have the type, AA, the basic bytes and the last two.
+long : (c : tie.After-basic) → 13 ≤ length (now (c .before .before .before .before .before .before .args .«data»))
+long c =
+    let at-read = c .before .before in
+    data-long _ _ (sym (at-read .before .before .checked .ensures) ∙ at-read .read .given .1)
+
 checked-requires : tie.Need-checked-requires
 checked-requires c κs = search needs
 
-enum-known-layout : tie.Need-enum-known-layout
-enum-known-layout c = search needs
+enum-known-read : tie.Need-enum-known-read
+enum-known-read c = search needs
+
+enum-told : tie.Need-enum-told
+enum-told c = search needs
+
+failed-requires : tie.Need-failed-requires
+failed-requires c κs = search needs
+
+failing-requires : tie.Need-failing-requires
+failing-requires c κs = search needs
+
+returns : tie.Need-returns
+returns c =
+    let at-told = c .before .before in
+    c .failing .ensures
+    ∙ rw (c .before .failed .ensures)
+    (sym (layout-fails _ (at-told .before .before .checked .ensures) (at-told .enum-told .given .1)))
 
 sub-end : tie.Need-sub-end
-sub-end c =
-    let known = sym (c .before .before .before .before .checked .ensures) ∙ c .before .before .layout .given .1 in
-    omega (arith, data-long _ _ known)
+sub-end c = omega (arith, long c)
 
 sub-completed : tie.Need-sub-completed
-sub-completed c =
-    let known = sym (c .before .before .before .before .checked .ensures) ∙ c .before .before .layout .given .1 in
-    omega (arith, data-long _ _ known)
+sub-completed c = omega (arith, long c)
 
 part-completed-start : tie.Need-part-completed-start
-part-completed-start c =
-    let known = sym (c .before .before .before .before .checked .ensures) ∙ c .before .before .layout .given .1 in
-    omega (arith, data-long _ _ known)
+part-completed-start c = omega (arith, long c)
 
 part-completed-end : tie.Need-part-completed-end
 part-completed-end c = search needs
@@ -35,37 +54,26 @@ part-completed-end c = search needs
 completed-requires : tie.Need-completed-requires
 completed-requires c κs = search needs
 
-enum-known-check : tie.Need-enum-known-check
-enum-known-check c = search needs
-
-failing-requires : tie.Need-failing-requires
-failing-requires c κs = search needs
-
-returns : tie.Need-returns
-returns c =
-    let at-layout = c .before .before .before .before in
-    let known = sym (at-layout .before .before .checked .ensures) ∙ at-layout .layout .given .1 in
-    c .completed .ensures
-    ∙ rw (layout-is _ _ known, block-part _ (data-long _ _ known)) (sym (completes _ _ known))
-
 returns-2 : tie.Need-returns-2
 returns-2 c =
-    let at-check = c .before .before in
-    let known = sym (at-check .before .before .checked .ensures) ∙ at-check .check .given .1 in
-    c .failing .ensures ∙ sym (layout-fails _ _ known)
+    let at-basic = c .before .before in
+    let at-read = at-basic .before .before in
+    let known = sym (at-read .before .before .checked .ensures) ∙ at-read .read .given .1 in
+    c .completed .ensures ∙ rw (layout-is _ _ known, block-part _ (long at-basic)) (sym (completes _ _ known))
 
 pub checked-spec : {M : Type 1} → statement M
 checked-spec =
     tie.close
     (tie.spec
     checked-requires
-    enum-known-layout
+    enum-known-read
+    enum-told
+    failed-requires
+    failing-requires
+    returns
     sub-end
     sub-completed
     part-completed-start
     part-completed-end
     completed-requires
-    enum-known-check
-    failing-requires
-    returns
     returns-2)

@@ -7,7 +7,7 @@ from-byte-requires : tie.Need-from-byte-requires
 from-byte-requires c κs = search needs
 
 returns : tie.Need-returns
-returns c = rw (c .from-byte .ensures)
+returns c = rw (c .from-byte .ensures .0)
 
 pub made-spec : {M : Type 1} → statement M
 made-spec = tie.close (tie.spec from-byte-requires returns)

@@ -3,7 +3,7 @@ use mathlib.Core.Path.{ap, _∙_}
 use borrow.Author.Needs.{needs}
 use Rattle.refusal.specs.Check.{outcomeOf}
 use Rattle.report.specs.Check.{parsedReport}
-use Rattle.report.proofs.Answers.{parsed-causes}
+use Rattle.report.proofs.Answers.{parsed-whole}
 use Rattle.report.proofs.Report.parse.Statement.{statement}
 use Rattle.report.proofs.Report.parse.Tie as tie
 
@@ -18,7 +18,7 @@ unfolding parsedReport
 returns c =
     let read = c .before .before .checked .ensures in
     let told = c .outcome .ensures ∙ ap (λ k. outcomeOf (k .failed)) read in
-    (rw (told, read), rw told (parsed-causes _))
+    parsed-whole _ (rw (told, read))
 
 pub parse-spec : {M : Type 1} → statement M
 parse-spec = tie.close (tie.spec checked-requires outcome-requires returns)

@@ -8,11 +8,11 @@ settled-requires : tie.Need-settled-requires
 settled-requires c κs = search needs
 
 scan-slice-requires : tie.Need-scan-slice-requires
-scan-slice-requires c κs = rw (c .settled .ensures) (settled-order _ _)
+scan-slice-requires c κs = rw (c .settled .ensures .0) (settled-order _ _)
 
 returns : tie.Need-returns
 returns c =
-    let settled = c .before .settled .ensures in
+    let settled = c .before .settled .ensures .0 in
     (rw (c .scan-slice .ensures .0, settled), rw (c .scan-slice .ensures .1, settled))
 
 pub run-at-spec : {M : Type 1} → statement M

@@ -3,24 +3,24 @@
 use mathlib.Core.Path.{sym}
 use native.Mathlib.Omega.{arith}
 use Rattle.target_state.specs.State.{stateOf}
-use Rattle.target_state.proofs.States.{state-both}
+use Rattle.target_state.proofs.States.{state-both, read-as}
 use Rattle.target_state.proofs.TargetState.from_byte.Statement.{statement}
 use Rattle.target_state.proofs.TargetState.from_byte.Tie as tie
 
 returns : tie.Need-returns
 unfolding stateOf
-returns c = rw (c .match .keys1)
+returns c = read-as _ (rw (c .match .keys1))
 
 returns-2 : tie.Need-returns-2
 unfolding stateOf
-returns-2 c = rw (c .match .keys2)
+returns-2 c = read-as _ (rw (c .match .keys2))
 
 returns-3 : tie.Need-returns-3
 unfolding stateOf
-returns-3 c = rw (c .match .keys3)
+returns-3 c = read-as _ (rw (c .match .keys3))
 
 returns-4 : tie.Need-returns-4
-returns-4 c = sym (state-both _ (omega arith))
+returns-4 c = read-as _ (sym (state-both _ (omega arith)))
 
 pub from-byte-spec : {M : Type 1} → statement M
 from-byte-spec = tie.close (tie.spec returns returns-2 returns-3 returns-4)

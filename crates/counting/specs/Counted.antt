@@ -1,0 +1,42 @@
+-- What a parser has counted, by document 01: the numbers of the division of the bytes that were handed over.
+--   FedAll p x s q   the bytes s, fed to the parser x, in which p is pending, leave q: its numbers are those that x had
+--                    and those of the division of p and s
+--   Counted s n      the numbers n of a line are those of the division of s
+--   Line n           they are those of some bytes: no contract can name the bytes that are read
+use mathlib.Core.Path.{_≡_}
+use mathlib.Core.List.{List, _++_}
+use Prim.Native.Nat.{ℕ, _+_, min}
+use lib.ListN.{length}
+use Rattle.number.specs.Counter.{counterMost}
+use Rattle.limit.specs.Length.{linkMost}
+use Rattle.framing.specs.Piece.{Piece}
+use Rattle.framing.specs.Division.{Division, cut}
+use Rattle.framing.specs.Tally.{sum}
+use Rattle.engine.specs.Bytes.{Bytes}
+use Rattle.stream.specs.Open.{Open, Whole}
+use Rattle.stream.specs.Deliver.{Counter, adds, frames, resyncs, dropped, malformed}
+use Rattle.parser.specs.Feed.{unfinishedOf}
+use Rattle.parser.specs.Engine.{counterIn, pendingBy}
+use Rattle.parser.specs.declared.Parser.{Parser}
+use Rattle.counting.specs.declared.Counts.{Counts}
+
+pub record FedAll (p : List ℕ) (x : Parser) (s : List ℕ) (q : Parser) : Type 0 where
+  pub pieces : List Piece
+  pub division : Division (Open linkMost) (Whole linkMost) (p ++ s) pieces
+  pub counted : (k : Counter) → counterIn k (q .stats) ≡ min (counterIn k (x .stats) + sum (adds k) pieces) counterMost
+  pub pending : pendingBy linkMost q ≡ cut pieces
+  pub unfinished : unfinishedOf linkMost q ≡ length (cut pieces)
+
+pub record Counted (s : List ℕ) (n : Counts) : Type 0 where
+  pub pieces : List Piece
+  pub division : Division (Open linkMost) (Whole linkMost) s pieces
+  pub frames-are : n .frames ≡ min (sum (adds frames) pieces) counterMost
+  pub resyncs-are : n .resyncs ≡ min (sum (adds resyncs) pieces) counterMost
+  pub dropped-are : n .dropped ≡ min (sum (adds dropped) pieces) counterMost
+  pub malformed-are : n .malformed ≡ min (sum (adds malformed) pieces) counterMost
+  pub unfinished-is : n .unfinished ≡ length (cut pieces)
+
+pub record Line (n : Counts) : Type 0 where
+  pub bytes : List ℕ
+  pub are-bytes : Bytes bytes
+  pub counted : Counted bytes n

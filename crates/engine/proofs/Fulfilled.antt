@@ -1,0 +1,173 @@
+-- A lawful engine fulfils demand 3, from every valid state, for every list of calls with bytes.
+use mathlib.Core.Path.{_≡_, refl, sym, _∙_, ap}
+use mathlib.Core.List.{List, [], _∷_, _++_, append-assoc, append-nil, cons≢nil}
+use Prim.Native.Nat.{ℕ, _+_, min}
+use native.Mathlib.Omega.{arith}
+use lib.ListN.{length}
+use Rattle.framing.proofs.Framing.{Framing, Waits}
+use Rattle.framing.specs.Piece.{Piece}
+use Rattle.framing.specs.Division.{is-unfinished}
+use Rattle.framing.proofs.Counting.{Counting, total}
+use Rattle.framing.proofs.Scanner.{step, closed, rest, leftover}
+use Rattle.framing.proofs.Division.{sum-append}
+use Rattle.framing.proofs.Scanned.{from, from-is, divided}
+use Rattle.framing.proofs.Append.{division-finished, division-cut}
+use Rattle.engine.specs.Bytes.{Every}
+use Rattle.engine.specs.Engine.{Engine, call, history, final}
+use Rattle.engine.specs.Calls.{Call, feed, slice, reset, ByteCall, Did, fed, sliced, cleared, taken}
+use Rattle.engine.specs.Calls.{stretches, soFar}
+use Rattle.engine.specs.Fulfilled.{deliveries, joinOver, sumOver, Fulfilled}
+use Rattle.engine.proofs.Lawful.{Decoding, protocolOf, Lawful}
+use Rattle.engine.proofs.Runs.{final-invariant}
+use Rattle.engine.proofs.Deliveries.{answersOf, answers-append, leftover-answers}
+use Rattle.engine.proofs.Moves.{DidRight, Moves, moves-byte, slice-moves, feed-right, slice-right}
+use Rattle.engine.proofs.Rights.{Rights, rights-none, rights-more, pieces, call-right}
+
+leftover-adds : {K : Type 0} (C : Counting K) (k : K) (p : List ℕ) → total C k (leftover p) ≡ 0
+leftover-adds C k [] = refl
+leftover-adds C k (b ∷ p) = omega (arith, C .cut-adds-nothing k (b ∷ p))
+
+module _ (F : Framing) where
+  pub rest-append : (p t u : List ℕ) → rest F p (t ++ u) ≡ rest F (rest F p t) u
+  rest-append p [] u = refl
+  rest-append p (c ∷ t) u = rest-append (step F p c .pending) t u
+
+  closed-append : (p t u : List ℕ) → closed F p (t ++ u) ≡ closed F p t ++ closed F (rest F p t) u
+  closed-append p [] u = refl
+  closed-append p (c ∷ t) u =
+      let r = step F p c in
+      ap (λ (l : List Piece). r .closed ++ l) (closed-append (r .pending) t u)
+      ∙ sym (append-assoc (r .closed) (closed F (r .pending) t) (closed F (rest F (r .pending) t) u))
+
+  -- A string that waits closes nothing, and is what is pending behind itself.
+  waits-closed : (p : List ℕ) → Waits F p → closed F [] p ≡ []
+  waits-closed [] w = refl
+  waits-closed (b ∷ p) w = sym (division-finished F (is-unfinished cons≢nil (w .0) (w .1)))
+
+  pub waits-rest : (p : List ℕ) → Waits F p → rest F [] p ≡ p
+  waits-rest [] w = refl
+  waits-rest (b ∷ p) w = sym (division-cut F (is-unfinished cons≢nil (w .0) (w .1))) ∙ append-nil (b ∷ p)
+
+module _ (F : Framing) {A K : Type 0} (D : Decoding A) (C : Counting K) where
+  -- What is answered, and what is added, up to the unfinished end.
+  closed-answers : (u : List ℕ) → answersOf D (from F [] u) ≡ answersOf D (closed F [] u)
+  closed-answers u = rw (from-is F [] u, answers-append D, leftover-answers D (rest F [] u), append-nil)
+
+  closed-adds : (k : K) (u : List ℕ) → total C k (from F [] u) ≡ total C k (closed F [] u)
+  closed-adds k u = ap (total C k) (from-is F [] u)
+      ∙ omega (arith, sum-append (C .adds k) (closed F [] u) (leftover (rest F [] u)), leftover-adds C k (rest F [] u))
+
+module _ (F : Framing) {S A K : Type 0} (D : Decoding A) (C : Counting K) (E : Engine S A K)
+    {Valid : S → Type 0} (L : Lawful F D C E Valid) where
+  -- The calls that did ds lead from s to s′; s stands behind the bytes u of a stretch.
+  record Run (u : List ℕ) (s : S) (ds : List (Did A)) (s′ : S) : Type 0 where
+    valid : Valid s′
+    stands : E .pending s′ ≡ rest F [] (soFar u ds)
+    rights : Rights (protocolOf F D C) (pieces F D C) u ds
+    deliver : answersOf D (closed F [] u) ++ deliveries (D .delivers) ds
+        ≡ joinOver (λ t. answersOf D (from F [] t)) (stretches u ds)
+    count : (k : K) → (g : ℕ) × (E .counter k s′ ≡ min (E .counter k s + g) (E .most))
+        × (total C k (closed F [] u) + g ≡ sumOver (λ t. total C k (from F [] t)) (stretches u ds))
+
+  run-none : (u : List ℕ) (s : S) → Valid s → E .pending s ≡ rest F [] u → Run u s [] s
+  run-none u s ok e = record {
+    valid = ok;
+    stands = e;
+    rights = rights-none (protocolOf F D C) (pieces F D C) u;
+    deliver = ap (λ (l : List A). l ++ []) (sym (closed-answers F D C u));
+    count = λ k. (0, omega (arith, L .capped s ok k), omega (arith, closed-adds F D C k u));
+  }
+
+  -- A call that took bytes, before others.
+  run-took : (u : List ℕ) (s : S) (d : Did A) (s₁ : S) (ds : List (Did A)) (s′ : S)
+      → E .pending s ≡ rest F [] u → Moves F D C E L s (taken d) s₁ → DidRight F D (E .pending s) d
+      → ((es : List (Did A)) → soFar u (d ∷ es) ≡ soFar (u ++ taken d) es)
+      → stretches u (d ∷ ds) ≡ stretches (u ++ taken d) ds
+      → Run (u ++ taken d) s₁ ds s′ → Run u s (d ∷ ds) s′
+  run-took u s d s₁ ds s′ e m r q q′ x =
+      let t = taken d in
+      let c = closed-append F [] u t in
+      record {
+        valid = x .valid;
+        stands = x .stands ∙ ap (rest F []) (sym (q ds));
+        rights = rights-more (protocolOf F D C) (pieces F D C) u (u ++ t) d ds q
+            (λ v. call-right F D C u v d (rw e at r)) (x .rights);
+        deliver = rw (r .delivered, e, q′, ← x .deliver, c, answers-append D)
+            (sym (append-assoc (answersOf D (closed F [] u)) (answersOf D (closed F (rest F [] u) t))
+            (deliveries (D .delivers) ds)));
+        count = λ k.
+            let y = x .count k in (
+              total C k (closed F (E .pending s) t) + y .0,
+              omega (arith, y .1, m .counter k),
+              rw q′ (omega (
+                arith,
+                y .2,
+                ap (total C k) c,
+                sum-append (C .adds k) (closed F [] u) (closed F (rest F [] u) t),
+                ap (λ (p : List ℕ). total C k (closed F p t)) e,
+              )),
+            );
+      }
+
+  run-reset : (u : List ℕ) (s : S) (ds : List (Did A)) (s′ : S) → Valid s → Run [] (E .reset s) ds s′
+      → Run u s (cleared ∷ ds) s′
+  run-reset u s ds s′ ok x = record {
+    valid = x .valid;
+    stands = x .stands;
+    rights = rights-more (protocolOf F D C) (pieces F D C) u [] cleared ds (λ es. refl) (λ v. tt) (x .rights);
+    deliver = rw (closed-answers F D C u) (ap (λ (l : List A). answersOf D (closed F [] u) ++ l) (x .deliver));
+    count = λ k.
+        let y = x .count k in (
+          y .0,
+          omega (arith, y .1, L .reset-counter s ok k),
+          omega (arith, y .2, closed-adds F D C k u),
+        );
+  }
+
+  runs : (calls : List Call) (u : List ℕ) (s : S) → Valid s → E .pending s ≡ rest F [] u → Every ByteCall calls
+      → Run u s (history E s calls) (final E s calls)
+  runs [] u s ok e h = run-none u s ok e
+  runs (reset ∷ cs) u s ok e h = run-reset u s (history E (E .reset s) cs) (final E (E .reset s) cs) ok
+      (runs cs [] (E .reset s) (L .reset-valid s ok) (L .reset-pending s ok) (h .1))
+  runs (feed b ∷ cs) u s ok e h =
+      let s₁ = E .feed s b .0 in
+      let m = moves-byte F D C E L s b ok (h .0) in
+      let e₁ = m .pending ∙ ap (λ (p : List ℕ). rest F p (b ∷ [])) e ∙ sym (rest-append F [] u (b ∷ [])) in
+      run-took u s (fed b (E .feed s b .1)) s₁ (history E s₁ cs) (final E s₁ cs) e m
+      (feed-right F D C E L s b ok (h .0)) (λ es. refl) refl (runs cs (u ++ (b ∷ [])) s₁ (m .valid) e₁ (h .1))
+  runs (slice bs ∷ cs) u s ok e h =
+      let r = E .slice s bs in
+      let d = sliced bs (r .told) (r .answer) in
+      let s₁ = r .state in
+      let m = slice-moves F D C E L s bs ok (h .0) in
+      let e₁ = m .pending ∙ ap (λ (p : List ℕ). rest F p (taken d)) e ∙ sym (rest-append F [] u (taken d)) in
+      run-took u s d s₁ (history E s₁ cs) (final E s₁ cs) e m
+      (slice-right F D C E L s bs ok (h .0)) (λ es. refl) refl (runs cs (u ++ taken d) s₁ (m .valid) e₁ (h .1))
+
+  -- The theorem.
+  pub fulfilled : (s : S) → Valid s → (calls : List Call) → Every ByteCall calls
+      → Fulfilled (protocolOf F D C) E (E .pending s) s calls
+  unfolding divided
+  fulfilled s ok calls h =
+      let p = E .pending s in
+      let w = L .pending-waits s ok in
+      let x = runs calls p s ok (sym (waits-rest F p w)) h in
+      let none = waits-closed F p w in
+      let left = x .stands ∙ sym (division-cut F (divided F (soFar p (history E s calls)) .division)) in
+      record {
+        divide = divided F;
+        right = x .rights;
+        delivered = rw none at (x .deliver);
+        counted = λ k. let y = x .count k in omega (arith, y .1, y .2, ap (total C k) none);
+        pending = left;
+        unfinished = L .pending-length (final E s calls) (x .valid) ∙ ap length left;
+      }
+
+  -- And the state stays valid.
+  pub final-valid : (s : S) (calls : List Call) → Valid s → Every ByteCall calls → Valid (final E s calls)
+  final-valid s calls ok h = final-invariant (call E) Valid ByteCall one s calls ok h
+    where
+      one : (s : S) (c : Call) → Valid s → ByteCall c → Valid (call E s c .0)
+      one s (feed b) ok h = L .feed-valid s b ok h
+      one s (slice bs) ok h = L .slice-valid s bs ok h
+      one s reset ok h = L .reset-valid s ok

@@ -1,0 +1,24 @@
+-- Calls and their stretches: cited from Runs and Stretches. Assumes nothing.
+use Rattle.engine.proofs.Runs.{history-append, final-append}
+use Rattle.engine.proofs.Stretches.{stretches-joined, stretch-of}
+use Rattle.engine.specs.Claims.{HistoryAppend, StretchesJoined, StretchOfCall}
+use Rattle.engine.proofs.call_claims.Statement.{statement}
+use Rattle.engine.proofs.call_claims.Tie as tie
+
+appended : HistoryAppend
+unfolding HistoryAppend
+appended M s cs ds = (history-append M s cs ds, final-append M s cs ds)
+
+stretches-all : StretchesJoined
+unfolding StretchesJoined
+stretches-all p ds = stretches-joined ds p
+
+stretch-one : StretchOfCall
+unfolding StretchOfCall
+stretch-one p before d behind h = stretch-of before p d behind h
+
+returns : tie.Need-returns
+returns c = (appended, (stretches-all, stretch-one))
+
+pub call-claims-spec : {M : Type 1} → statement M
+call-claims-spec = tie.close (tie.spec returns)

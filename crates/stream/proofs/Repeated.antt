@@ -1,0 +1,18 @@
+-- A byte F4 begins a frame, and does not go on with itself.
+use mathlib.Core.List.{[], _∷_}
+use Prim.Native.Nat.{ℕ}
+use lib.Dec.{T}
+use Rattle.stream.proofs.Scan.{reads, opens, wholes}
+
+module _ (most : ℕ) where
+  pub opens-once : T (opens most (0xF4 ∷ []))
+  unfolding opens reads
+  opens-once = tt
+
+  pub not-whole : ¬ T (wholes most (0xF4 ∷ []))
+  unfolding wholes reads
+  not-whole h = h
+
+  pub not-twice : ¬ T (opens most (0xF4 ∷ 0xF4 ∷ []))
+  unfolding opens reads
+  not-twice h = h

@@ -1,0 +1,34 @@
+-- `target_state::TargetState::to_byte` meets its contract: each arm gives the byte of its state. Assumes nothing.
+use borrow.Author.Needs.{needs}
+use Rattle.target_state.proofs.States.{sent-as}
+use Rattle.target_state.proofs.TargetState.to_byte.Statement.{statement}
+use Rattle.target_state.proofs.TargetState.to_byte.Tie as tie
+
+enum-told : tie.Need-enum-told
+enum-told c = search needs
+
+enum-told-2 : tie.Need-enum-told-2
+enum-told-2 c = search needs
+
+enum-told-3 : tie.Need-enum-told-3
+enum-told-3 c = search needs
+
+enum-told-4 : tie.Need-enum-told-4
+enum-told-4 c = search needs
+
+returns : tie.Need-returns
+returns c = sent-as (search needs)
+
+returns-2 : tie.Need-returns-2
+returns-2 c = sent-as (search needs)
+
+returns-3 : tie.Need-returns-3
+returns-3 c = sent-as (search needs)
+
+returns-4 : tie.Need-returns-4
+returns-4 c = sent-as (search needs)
+
+pub to-byte-spec : {M : Type 1} → statement M
+to-byte-spec =
+    tie.close
+    (tie.spec enum-told enum-told-2 enum-told-3 enum-told-4 returns returns-2 returns-3 returns-4)

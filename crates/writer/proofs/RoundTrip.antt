@@ -1,0 +1,79 @@
+-- A writer and a reader that agree on the frame of a value agree on every buffer: the one law behind the round trips of
+-- commands, reports and acknowledgements.
+use mathlib.Core.Path.{_≡_, refl, sym, _∙_}
+use mathlib.Core.Logic.{_↔_}
+use mathlib.Core.List.{List}
+use mathlib.Core.Bool.{Bool, true, false}
+use Prim.Native.Nat.{ℕ, _≤_}
+use native.Mathlib.Omega.{arith}
+use lib.ListN.{length, take}
+use Rattle.number.specs.Bytes.{Bytes}
+use Rattle.refusal.specs.Refusal.{numberOf}
+use Rattle.refusal.specs.declared.Error.{Error}
+use Rattle.writer.specs.Written.{written, unless, numberOfWrite, WriteCauses}
+use Rattle.writer.specs.RoundTrip.{Codec, writes, leaves, Written, RoundTrip}
+use Rattle.writer.specs.declared.WriteResult.{WriteResult}
+use Rattle.writer.specs.declared.WriteResult.the-variants.{Ok}
+use Rattle.writer.proofs.Chain.{written-front}
+use Rattle.writer.proofs.Writers.{Wrote, wrote-all, wrote-whole, none-good, write-causes, shown}
+
+-- What is owed for the value v, which is refused with e unless it is good. No buffer is spoken of.
+pub record Agreed {A : Type 0} (C : Codec A) (v : A) (e : Error) (good : Bool) : Type 0 where
+  pub refused : C .refusal v ≡ unless good e
+  pub number : C .number ≡ numberOf e
+  -- the frame of a good value is a byte string that may stand where the value was written
+  pub bytes : good ≡ true → Bytes (C .frame v)
+  pub written : good ≡ true → Written C v (C .frame v)
+  -- a value that is read from such a string is good, and a string that is kept is its frame
+  pub found : (s : List ℕ) → Bytes s → C .Within s → C .Reads s v → good ≡ true
+  pub again : (s : List ℕ) → Bytes s → C .Within s → C .Kept s → C .Reads s v → C .frame v ≡ s
+
+-- What a writer has to show that agrees with its reader: its answer, its buffer, the causes, and the round trip.
+abbrev pub ShownRound : {A : Type 0} → Codec A → A → Bool → List ℕ → WriteResult → List ℕ → Type 0
+ShownRound C v good out r left =
+    (r ≡ writes C v out)
+    × ((left ≡ leaves C v out)
+    × (WriteCauses (C .number) (good ≡ false) (C .frame v) (length out) r × RoundTrip C v))
+
+module _ {A : Type 0} (C : Codec A) (v : A) (e : Error) (good : Bool) (h : Agreed C v e good) where
+  read-back : (out : List ℕ) (n : ℕ) → writes C v out ≡ Ok n → Written C v (take n (leaves C v out))
+  read-back out n q =
+      let a = wrote-all (C .frame v) out (leaves C v out) n (C .refusal v) (sym q, refl) in
+      let g = none-good good e (sym (h .refused) ∙ a .good) in
+      rw (a .content, a .size, written-front out (C .frame v)) (h .written g)
+
+  written-again : (s : List ℕ) → Bytes s → C .Within s → C .Kept s → C .Reads s v → (out : List ℕ)
+      → length s ≤ length out → (writes C v out ≡ Ok (length s)) × (leaves C v out ≡ written out s)
+  written-again s b w k r out l =
+      let x = wrote-whole s out (length s) (written out s) refl l refl in
+      rw (h .refused, h .found s b w r, h .again s b w k r) (sym (x .0), sym (x .1))
+
+  -- A bad value is read from no string, and a value that is read from none is bad.
+  abbrev Unread : Type 0
+  Unread = (s : List ℕ) → Bytes s → C .Within s → C .Reads s v → ⊥
+
+  bad-unread : good ≡ false → Unread
+  bad-unread q s b w r =
+      let g = h .found s b w r in
+      let z : _≡_ {A = ℕ} 0 1 = cc in
+      omega arith
+
+  unread-bad : (g : Bool) → good ≡ g → Unread → good ≡ false
+  unread-bad true q u = let w = h .written q in absurd (u (C .frame v) (h .bytes q) (w .within) (w .read))
+  unread-bad false q u = q
+
+  module _ (apart : numberOf e ≡ 4 → ⊥) (some : numberOf e ≡ 0 → ⊥) where
+    refused-exactly : (out : List ℕ) → (numberOfWrite (writes C v out) ≡ C .number) ↔ Unread
+    refused-exactly out =
+        let bad = write-causes e apart some (C .frame v) (length out) good .refused in
+        rw (h .refused, h .number) (λ z. bad-unread (bad .0 z), λ u. bad .1 (unread-bad good refl u))
+
+    -- They agree on the value.
+    pub round-trip : RoundTrip C v
+    round-trip = record { back = read-back; exact = refused-exactly; again = written-again }
+
+    pub shown-round : (out left : List ℕ) {r : WriteResult} → Wrote (C .refusal v) (C .frame v) out r left
+        → ShownRound C v good out r left
+    shown-round out left w =
+        let x = shown e apart some good (C .frame v) out left (rw (h .refused) at w) in
+        (w .0, (w .1, (rw (h .number) (x .1 .1), round-trip)))
