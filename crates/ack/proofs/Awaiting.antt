@@ -14,8 +14,8 @@ use Rattle.refusal.specs.declared.Outcome.{Outcome}
 use Rattle.refusal.specs.declared.Outcome.the-variants.{Ok, Err}
 use Rattle.ack.specs.Awaited.{awaited, AwaitedCauses, spanAs, expected, errorIn, noSpan, returnedSpan}
 use Rattle.reply.specs.Reply.{Reply, judged, readAs}
-use Rattle.span.specs.Span.{payloadIn}
-use Rattle.span.specs.declared.Span.{Span}
+use Rattle.ack.specs.Span.{payloadIn}
+use Rattle.ack.specs.declared.span.Span.{Span}
 use Rattle.ack.specs.Awaited.{replied, ReplyCauses}
 use Rattle.ack.specs.declared.Ack.{Ack}
 use Rattle.ack.specs.declared.SpanResult.{SpanResult}

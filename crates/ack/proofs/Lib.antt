@@ -3,3 +3,5 @@
 pub mod Reading
 -- Awaiting an acknowledgement and reading its reply, whichever it is.
 pub mod Awaiting
+-- A payload inside the bytes, and one that is not.
+pub mod Spans

@@ -13,7 +13,7 @@ use mathlib.Core.Bool.{Bool, false}
 use Prim.Native.Nat.{ℕ, _-_, _/_, _%_}
 use lib.Dec.{leb, eqb}
 use lib.ListN.{length, take, drop}
-use Rattle.number.specs.Number.{little}
+use Rattle.wire.specs.Number.{little}
 use Rattle.refusal.specs.Refusal.{Returned, accepted, refused}
 use Rattle.refusal.specs.Check.{Checks, firstFailed, errorOf}
 use Rattle.refusal.specs.declared.Check.the-variants.{A1, A2}

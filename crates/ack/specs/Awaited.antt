@@ -20,8 +20,8 @@ use Rattle.refusal.specs.declared.Error.the-variants.{InvalidFormat}
 use Rattle.refusal.specs.declared.Outcome.{Outcome}
 use Rattle.refusal.specs.declared.Outcome.the-variants.{Ok, Err}
 use Rattle.reply.specs.Reply.{Reply, judged}
-use Rattle.span.specs.Span.{payloadIn}
-use Rattle.span.specs.declared.Span.{Span}
+use Rattle.ack.specs.Span.{payloadIn}
+use Rattle.ack.specs.declared.span.Span.{Span}
 use Rattle.ack.specs.declared.Ack.{Ack}
 use Rattle.ack.specs.declared.SpanResult.{SpanResult}
 use Rattle.ack.specs.declared.SpanResult.the-variants as Spanned

@@ -1,2 +1,3 @@
 pub mod Ack
 pub mod Awaited
+pub mod Span

@@ -1,10 +1,8 @@
 // Acknowledgements of the LD2410: reading one from a command frame's data, awaiting a command's, and reading its reply.
 //
 // Where the Rust's `Ack` borrows its payload, this one says where the payload stands, and a reply takes the bytes too.
-use number::MaybeU16;
-use number::le16;
-use parameters::Parameters;
-use parameters::ParametersResult;
+mod span;
+
 use refusal::Check;
 use refusal::Error;
 use reply::EnableConfig;
@@ -13,9 +11,13 @@ use reply::FirmwareVersion;
 use reply::FirmwareVersionResult;
 use reply::Mac;
 use reply::MacResult;
-use span::Span;
+use reply::Parameters;
+use reply::ParametersResult;
+pub use span::Span;
 use span::payload;
 use wire::ACK_BIT;
+use wire::MaybeU16;
+use wire::le16;
 use wire::word;
 ghost use mathlib.Core.Path.{_≡_};
 ghost use mathlib.Core.Bool.{true};
@@ -26,15 +28,15 @@ ghost use Rattle.ack.specs.Awaited.{replied, ReplyCauses};
 ghost use Rattle.reply.specs.Replies.{enableConfigReply, noEnableConfig, enableConfigAs, returnedEnableConfig};
 ghost use Rattle.reply.specs.Replies.{firmwareReply, noFirmware, firmwareAs, returnedFirmware};
 ghost use Rattle.reply.specs.Replies.{macReply, noMac, macAs, returnedMac};
-ghost use Rattle.parameters.specs.Parameters.{parametersReply, noParameters, parametersAs, returnedParameters};
+ghost use Rattle.reply.specs.Parameters.{parametersReply, noParameters, parametersAs, returnedParameters};
 
 // An acknowledgement from the module. Its word is the request's, with the ACK bit cleared, so that it compares directly
 // with the constants of the module `word`. `ok` is read as status 0.
 pub struct Ack {
-    pub word: u16,
-    pub ok: bool,
-    pub status: u16,
     pub payload: Span,
+    pub word: u16,
+    pub status: u16,
+    pub ok: bool,
 }
 
 // What reading an acknowledgement's data gives: the acknowledgement, or the first check that fails.

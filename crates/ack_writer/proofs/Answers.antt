@@ -7,17 +7,17 @@ use Prim.Native.Nat.{ℕ, _+_, _≤_, _<_}
 use native.Mathlib.Omega.{arith}
 use lib.ListN.{length}
 use borrow.Author.Tests.{le-leb}
-use Rattle.number.specs.Bytes.{Bytes}
-use Rattle.number.specs.Number.{leBytes}
+use Rattle.wire.specs.Bytes.{Bytes}
+use Rattle.wire.specs.Number.{leBytes}
 use Rattle.wire.specs.Family.{framed}
 use Rattle.wire.specs.declared.Kind.the-variants.{Command}
 use Rattle.refusal.specs.declared.Error.the-variants.{Unrepresentable}
-use Rattle.envelope.specs.Envelope.{dataOf}
-use Rattle.envelope.proofs.Framed.{framed-dataOf}
+use Rattle.frame.specs.Envelope.{dataOf}
+use Rattle.frame.proofs.Framed.{framed-dataOf}
 use Rattle.writer.specs.Written.{framable}
 use Rattle.writer.specs.declared.WriteResult.{WriteResult}
 use Rattle.writer.specs.declared.WriteResult.the-variants.{Err}
-use Rattle.put.proofs.Bytes.{bytes-append, bytes-leBytes, framed-bytes}
+use Rattle.writer.proofs.Bytes.{bytes-append, bytes-leBytes, framed-bytes}
 use Rattle.writer.proofs.Writers.{Wrote, Shown, wrote-refused}
 use Rattle.writer.proofs.RoundTrip.{Agreed, ShownRound, shown-round}
 use Rattle.ack_writer.specs.Frame.{ackData, ackFrame, writable, unrepresentable}

@@ -17,20 +17,20 @@ use Rattle.refusal.specs.declared.MaybeCheck.{MaybeCheck}
 use Rattle.refusal.specs.declared.MaybeCheck.the-variants as Maybe
 use Rattle.refusal.specs.declared.Outcome.the-variants.{Ok}
 use Rattle.refusal.proofs.Checks.{passes-sound}
-use Rattle.byte_string.proofs.Equality.{same-sound}
+use Rattle.wire.proofs.Equality.{same-sound}
 use Rattle.ack.specs.Ack.{wordIn, ackOf}
-use Rattle.span.specs.Span.{payloadIn}
+use Rattle.ack.specs.Span.{payloadIn}
 use Rattle.ack.specs.declared.Ack.{Ack}
 use Rattle.ack.proofs.Reading.{checked-set}
-use Rattle.span.proofs.Spans.{payload-inside}
-use Rattle.envelope.specs.Envelope.{family, announced, dataOf, isFamily, endsAs}
+use Rattle.ack.proofs.Spans.{payload-inside}
+use Rattle.frame.specs.Envelope.{family, announced, dataOf, isFamily, endsAs}
 use Rattle.frame.specs.Frame.{thenBody, checksFor, startingAt}
 use Rattle.frame.specs.Frame.{frameIf, frameAs, checkedFrame, parsedFrame}
 use Rattle.frame.specs.declared.Frame.{Frame}
 use Rattle.frame.proofs.Bodies.{ack-passes}
-use Rattle.envelope.proofs.Framed.{framed-data, framed-length}
+use Rattle.frame.proofs.Framed.{framed-data, framed-length}
 use Rattle.frame.proofs.Answers.{checked-framed}
-use Rattle.number.specs.Bytes.{Bytes}
+use Rattle.wire.specs.Bytes.{Bytes}
 use Rattle.writer.proofs.Framing.{checked-cut, cut-framed}
 use Rattle.ack_writer.specs.RoundTrip.{acknowledged}
 
@@ -81,7 +81,7 @@ module _ (d : List ℕ) (four : 4 ≤ length d) where
       rw (checked-framed Command d small
       ∙ ack-passes 10 d (ackOf d) (checked-set d four (λ z. absurd (omega arith))))
 
-  -- The payload stands behind the word and the status.
+  -- The payload stands after the word and the status.
   pub payload-behind : payloadIn (framed Command d) (record { start = 10; len = length d - 4 }) ≡ drop 4 d
   payload-behind =
       let n = framed-length Command d in

@@ -8,17 +8,17 @@ use lib.Dec.{eqb, leb}
 use lib.ListN.{length, take, drop, take-append-drop, length-take, length-drop}
 use lib.Seq.{drop-drop}
 use borrow.Author.Tests.{leb-true, le-leb, eqb-true, eq-eqb}
-use Rattle.number.specs.Bytes.{Bytes}
-use Rattle.number.specs.Number.{little, leBytes}
+use Rattle.wire.specs.Bytes.{Bytes}
+use Rattle.wire.specs.Number.{little, leBytes}
 use Rattle.wire.specs.Family.{framed}
 use Rattle.wire.specs.declared.Kind.the-variants.{Command}
-use Rattle.byte_string.proofs.Equality.{both-true}
+use Rattle.wire.proofs.Equality.{both-true}
 use Rattle.ack.specs.Ack.{wordIn, statusIn, ackOf}
-use Rattle.span.specs.Span.{payloadIn}
+use Rattle.ack.specs.Span.{payloadIn}
 use Rattle.ack.specs.declared.Ack.{Ack}
-use Rattle.envelope.specs.Envelope.{announced, dataOf}
+use Rattle.frame.specs.Envelope.{announced, dataOf}
 use Rattle.frame.specs.Frame.{startingAt}
-use Rattle.put.proofs.Bytes.{bytes-take, bytes-drop, leBytes-little}
+use Rattle.writer.proofs.Bytes.{bytes-take, bytes-drop, leBytes-little}
 use Rattle.ack_writer.specs.Frame.{ackData, ackFrame, writable}
 use Rattle.ack_writer.specs.RoundTrip.{ackValue, acknowledged, ackOfValue, ReadAs, ackLimit}
 use Rattle.ack_writer.proofs.Filling.{data-length}

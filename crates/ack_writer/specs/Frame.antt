@@ -10,7 +10,7 @@ use mathlib.Core.Option.{Option}
 use Prim.Native.Nat.{ℕ, _+_, _/_, _%_}
 use lib.Dec.{eqb, leb}
 use lib.ListN.{length}
-use Rattle.number.specs.Number.{leBytes}
+use Rattle.wire.specs.Number.{leBytes}
 use Rattle.wire.specs.Family.{framed}
 use Rattle.wire.specs.declared.Kind.the-variants as Family
 use Rattle.refusal.specs.declared.Error.{Error}

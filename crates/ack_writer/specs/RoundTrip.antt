@@ -15,9 +15,9 @@ use lib.ListN.{length}
 use Rattle.refusal.specs.declared.Outcome.the-variants.{Ok}
 use Rattle.writer.specs.RoundTrip.{Codec}
 use Rattle.report.specs.Report.{noReport}
-use Rattle.span.specs.Span.{payloadIn}
+use Rattle.ack.specs.Span.{payloadIn}
 use Rattle.ack.specs.declared.Ack.{Ack}
-use Rattle.envelope.specs.Envelope.{dataOf}
+use Rattle.frame.specs.Envelope.{dataOf}
 use Rattle.frame.specs.Frame.{parsedFrame}
 use Rattle.frame.specs.declared.FrameKind.the-variants as Is
 use Rattle.frame.specs.declared.FrameResult.{FrameResult}

@@ -1,14 +1,14 @@
 // The writer of acknowledgement frames, as the module sends them.
 //
 // It writes each value that the reader of frames can give, with a payload of at most 50 bytes, and refuses every other.
-use put::put;
-use put::put_u16;
 use refusal::Error;
 use wire::ACK_BIT;
 use wire::Kind;
 use wire::MAX_DATA;
 use writer::WriteResult;
+use writer::put;
 use writer::put_frame;
+use writer::put_u16;
 ghost use mathlib.Core.Path.{_≡_};
 ghost use mathlib.Core.Bool.{false};
 ghost use lib.ListN.{length};
@@ -37,7 +37,7 @@ fn writable(word: u16, ok: bool, status: u16, payload: &[u8]) -> bool
 }
 
 // Writes the frame of an acknowledgement into the front of `out`, and answers the bytes written. Refuses with 6 a value
-// that the reader cannot give, then with 4 a buffer shorter than the frame. Bytes behind the frame stay, and a refused
+// that the reader cannot give, then with 4 a buffer shorter than the frame. Bytes after the frame stay, and a refused
 // call changes none.
 pub fn write_ack(out: &mut [u8], word: u16, ok: bool, status: u16, payload: &[u8]) -> WriteResult
     ensures told { λ r. ⌜ r ≡ answerOf (unrepresentable word ok status (now (payload .entry)))

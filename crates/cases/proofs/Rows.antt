@@ -6,8 +6,8 @@ use mathlib.Core.Bool.{Bool, true, false}
 use Prim.Native.Nat.{ℕ}
 use native.Mathlib.Omega.{arith}
 use lib.ListN.{length}
-use Rattle.number.specs.Counter.{bumped}
-use Rattle.byte_string.specs.Equal.{sameBytes}
+use Rattle.wire.specs.Counter.{bumped}
+use Rattle.wire.specs.Equal.{sameBytes}
 use Rattle.wire.specs.Family.{headerOf, framed}
 use Rattle.target_state.specs.State.{stateOf}
 use Rattle.report.specs.Report.{reportOf}
@@ -25,15 +25,15 @@ use Rattle.stream.proofs.Link.{link}
 use Rattle.stream.proofs.Linked.{opens-are, wholes-are}
 use Rattle.stream.specs.Deliver.{Answer, decodes}
 use Rattle.scan.specs.Scan.{inOrder, settled, unfinishedBy}
-use Rattle.stats.specs.Start.{abandoned, startOf}
+use Rattle.scan.specs.Start.{abandoned, startOf}
 use Rattle.step.specs.Step.{stepOf, stored}
 use Rattle.step.specs.Slice.{runOf}
 use Rattle.parser.specs.Feed.{fresh, feedOf, feedSliceOf, unfinishedOf}
-use Rattle.feeding.specs.Moved.{bufOf, movedOf, sliceBufOf, sliceMovedOf}
+use Rattle.feed.specs.Moved.{bufOf, movedOf, sliceBufOf, sliceMovedOf}
 use Rattle.parser.specs.Claims.{did, left}
 use Rattle.writer.specs.Written.{answerOf, bufferAfter, written}
 use Rattle.command.specs.Command.{commandFrame, encodable, unsupported}
-use Rattle.request.specs.Request.{dataWith}
+use Rattle.cursor.specs.Request.{dataWith}
 use Rattle.command_reader.specs.Read.{is-command}
 use Rattle.command_reader.specs.declared.CommandResult.the-variants as Read
 use Rattle.cases.specs.Row.{Numbers, addedUp, countedBy, Stream, StreamHolds, Run, RunHolds}

@@ -10,7 +10,7 @@ use Prim.Native.Nat.{ℕ}
 use lib.ListN.{replicate}
 use Rattle.refusal.specs.declared.Error.the-variants.{Unsupported, BufferTooSmall}
 use Rattle.writer.specs.declared.WriteResult.the-variants as Write
-use Rattle.setting.specs.declared.Gate.the-variants.{Index}
+use Rattle.command.specs.declared.setting.Gate.the-variants.{Index}
 use Rattle.command.specs.declared.Command.{Command}
 use Rattle.command.specs.declared.Command.the-variants.{EnableConfig, EndConfig, SetSensitivity}
 use Rattle.command_reader.specs.declared.CommandResult.the-variants as Read

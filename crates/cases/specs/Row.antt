@@ -13,7 +13,7 @@ use mathlib.Core.Path.{_≡_}
 use mathlib.Core.List.{List}
 use Prim.Native.Nat.{ℕ}
 use lib.ListN.{length}
-use Rattle.limit.specs.Length.{linkMost}
+use Rattle.stream.specs.Length.{linkLimit}
 use Rattle.framing.specs.Piece.{Piece}
 use Rattle.framing.specs.Division.{Division}
 use Rattle.framing.specs.Tally.{sum, waiting}
@@ -52,7 +52,7 @@ countedBy p = record {
   resyncs = p .stats .resyncs;
   dropped = p .stats .dropped;
   malformed = p .stats .malformed;
-  unfinished = unfinishedOf linkMost p;
+  unfinished = unfinishedOf linkLimit p;
 }
 
 pub record Stream : Type 0 where
@@ -62,7 +62,7 @@ pub record Stream : Type 0 where
 
 pub record StreamHolds (r : Stream) : Type 0 where
   -- the bytes divide into the pieces, and no others: a division is the only one
-  pub divided : Division (Open linkMost) (Whole linkMost) (r .bytes) (r .pieces)
+  pub divided : Division (Open linkLimit) (Whole linkLimit) (r .bytes) (r .pieces)
   -- the pieces add up to the numbers
   pub added : addedUp (r .pieces) ≡ r .numbers
   -- a fresh parser that is fed the bytes one by one tells the numbers

@@ -73,7 +73,7 @@ runs =
     -- "F4 F3, then reset: all counters 0"
     ∷ row fresh (feed 0xF4 ∷ feed 0xF3 ∷ reset ∷ [])
     (fed 0xF4 nothing ∷ fed 0xF3 nothing ∷ cleared ∷ []) (numbers 0 0 0 0 0)
-    -- a stray byte behind a full counter, and every other kind of piece that counts
+    -- a stray byte after a full counter, and every other kind of piece that counts
     ∷ row full (feed 0x00 ∷ slice (0xF4 ∷ 0x00 ∷ []) ∷ slice b ∷ slice bare ∷ [])
     (fed 0x00 nothing ∷ sliced (0xF4 ∷ 0x00 ∷ []) 2 nothing ∷ sliced b 23 (bReport, []) ∷ sliced bare 12 nothing ∷ [])
     (numbers 4294967295 4294967295 4294967295 4294967295 0)

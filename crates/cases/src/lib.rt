@@ -3,6 +3,6 @@
 ghost use Rattle.cases.specs.Claims.{AllHold};
 
 // Every row of the table holds.
-pub fn all_cases()
+fn all_cases()
     ensures hold { λ _. ⌜ AllHold ⌝ }
 {}

@@ -12,9 +12,9 @@ use Rattle.writer.specs.declared.WriteResult.{WriteResult}
 use Rattle.writer.specs.declared.WriteResult.the-variants.{Err}
 use Rattle.writer.proofs.Writers.{Wrote, wrote-refused, shown}
 use Rattle.command.specs.Command.{wordOf, valueOf, commandFrame, encodable, unsupported}
-use Rattle.request.specs.Request.{frameWith}
+use Rattle.cursor.specs.Request.{frameWith}
 use Rattle.command.specs.declared.Command.{Command}
-use Rattle.request.specs.declared.Value.{Value}
+use Rattle.cursor.specs.declared.maker.Value.{Value}
 
 module _ (c : Command) (out : List ℕ) where
   -- What the encoder has to show: its answer, its buffer and the causes.

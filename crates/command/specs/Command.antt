@@ -1,8 +1,7 @@
 -- Commands: "a frame is header, length, word, value, tail: 12, 14 or 30 bytes", by the table of document 01's point 6.
 --   wordOf c         the command's word
---   valueOf c        what stands behind it: nothing, a two-byte number, or the values of three records
+--   valueOf c        what stands after it: nothing, a two-byte number, or the values of three records
 --   commandFrame c   the command's frame
---   sizeWith v       its size, by the kind of its value v
 --   encodable c      whether the module takes the command's values: gates 0 to 8, sensitivities 0 to 100
 --   unsupported c    refusal 2, unless it does
 use mathlib.Core.List.{List}
@@ -13,10 +12,10 @@ use lib.Dec.{leb}
 use Rattle.refusal.specs.declared.Error.{Error}
 use Rattle.refusal.specs.declared.Error.the-variants.{Unsupported}
 use Rattle.writer.specs.Written.{unless}
-use Rattle.setting.specs.Setting.{gateValue, gateKnown, farthest, sensitivity, indexOf}
-use Rattle.request.specs.Request.{frameWith}
-use Rattle.request.specs.declared.Value.{Value}
-use Rattle.request.specs.declared.Value.the-variants as Of
+use Rattle.command.specs.Setting.{gateValue, gateKnown, farthest, sensitivity, indexOf}
+use Rattle.cursor.specs.Request.{frameWith}
+use Rattle.cursor.specs.declared.maker.Value.{Value}
+use Rattle.cursor.specs.declared.maker.Value.the-variants as Of
 use Rattle.command.specs.declared.Command.{Command}
 use Rattle.command.specs.declared.Command.the-variants.{EnableConfig, EndConfig, SetMaxGates, ReadParameters}
 use Rattle.command.specs.declared.Command.the-variants.{EngineeringMode, SetSensitivity, ReadFirmware, SetBaud}
@@ -54,12 +53,6 @@ valueOf ReadMac = Of.Number 1
 
 abbrev pub commandFrame : Command → List ℕ
 commandFrame c = frameWith (wordOf c) (valueOf c)
-
--- "12, 14 or 30 bytes": "no value", "two-byte value", "three records"
-abbrev pub sizeWith : Value → ℕ
-sizeWith Of.None = 12
-sizeWith (Of.Number v) = 14
-sizeWith (Of.Records a b c) = 30
 
 -- Seconds are what two bytes hold; the code's type says so.
 abbrev pub encodable : Command → Bool

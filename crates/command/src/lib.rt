@@ -1,21 +1,24 @@
 // Commands to the module: their words, values and frames, and the encoder.
 //
 // What the module takes is said once, in `Command::encodable`: the encoder refuses any other value.
+mod setting;
+
+use cursor::Value;
+use cursor::put_value;
 use refusal::Error;
-use request::Value;
-use request::put_value;
-use setting::Baud;
-use setting::Gate;
+pub use setting::Baud;
+pub use setting::Gate;
+pub use setting::MaybeBaud;
 use setting::are_sensitivities;
 use setting::may_be_farthest;
-use wire::FRAMING;
 use wire::word;
 use writer::WriteResult;
 ghost use mathlib.Core.Path.{_≡_};
 ghost use mathlib.Core.Bool.{false};
 ghost use lib.ListN.{length};
 ghost use Rattle.writer.specs.Written.{answerOf, bufferAfter, WriteCauses};
-ghost use Rattle.command.specs.Command.{wordOf, valueOf, commandFrame, sizeWith, encodable, unsupported};
+ghost use Rattle.cursor.specs.Request.{sizeWith};
+ghost use Rattle.command.specs.Command.{wordOf, valueOf, commandFrame, encodable, unsupported};
 
 // A command to the module. Every one but `EnableConfig` is sent between `EnableConfig` and `EndConfig`.
 pub enum Command {
@@ -80,7 +83,7 @@ impl Command {
         }
     }
 
-    // What stands behind the word.
+    // What stands after the word.
     fn value(self) -> Value
         ensures carried { λ r. ⌜ r ≡ valueOf self ⌝ }
     {
@@ -118,39 +121,30 @@ impl Command {
         ensures counted { λ r. ⌜ r ≡ length (commandFrame self) ⌝ }
         ensures sized { λ r. ⌜ r ≡ sizeWith (valueOf self) ⌝ }
     {
-        FRAMING + 2 + self.value().len()
+        self.value().framed_len()
     }
 
     // Whether the module takes the command's values.
-    pub fn encodable(self) -> bool
+    fn encodable(self) -> bool
         ensures tested { λ r. ⌜ r ≡ encodable self ⌝ }
     {
         match self {
-            Command::EnableConfig => true,
-            Command::EndConfig => true,
             Command::SetMaxGates {
                 moving,
                 stationary,
                 no_one_secs: _,
             } => { may_be_farthest(moving) && may_be_farthest(stationary) }
-            Command::ReadParameters => true,
-            Command::EngineeringMode(_) => true,
             Command::SetSensitivity {
                 gate,
                 moving,
                 stationary,
             } => { gate.known() && are_sensitivities(moving, stationary) }
-            Command::ReadFirmware => true,
-            Command::SetBaud(_) => true,
-            Command::FactoryReset => true,
-            Command::Restart => true,
-            Command::Bluetooth(_) => true,
-            Command::ReadMac => true,
+            _ => true,
         }
     }
 
     // Encodes the frame into the front of `out`, and answers the bytes written. Refuses with 2 a value that the module
-    // does not take, then with 4 a buffer shorter than the frame. Bytes behind the frame stay, and a refused call
+    // does not take, then with 4 a buffer shorter than the frame. Bytes after the frame stay, and a refused call
     // changes none.
     pub fn encode(self, out: &mut [u8]) -> WriteResult
         ensures told { λ r. ⌜ r ≡ answerOf (unsupported self) (commandFrame self) (length (now (out .entry))) ⌝ }

@@ -7,15 +7,16 @@ use mathlib.Core.Bool.{Bool, true, false}
 use mathlib.Core.Option.{some}
 use Prim.Native.Nat.{ℕ}
 use native.Mathlib.Omega.{arith}
-use lib.ListN.{length, take}
-use borrow.Author.Tests.{leb-true}
-use Rattle.number.specs.Number.{little}
+use lib.ListN.{take}
+use Rattle.wire.specs.Number.{little}
+use Rattle.wire.specs.declared.Kind.the-variants as Family
 use Rattle.refusal.specs.Refusal.{accepted}
 use Rattle.refusal.specs.declared.Error.the-variants.{InvalidFormat}
-use Rattle.request.specs.Request.{dataWith}
-use Rattle.request.proofs.Makers.{data-framable, data-worded}
-use Rattle.asking.specs.Asking.{Asks, ackBit}
-use Rattle.asking.proofs.Asking.{framed-asks}
+use Rattle.cursor.specs.Request.{dataWith}
+use Rattle.writer.proofs.Frames.{frame-length}
+use Rattle.command.proofs.Frames.{frame-bounds}
+use Rattle.command_reader.specs.Asking.{Asks, ackBit}
+use Rattle.command_reader.proofs.AskingAsking.{framed-asks}
 use Rattle.command.specs.Command.{wordOf, valueOf, commandFrame}
 use Rattle.command.specs.declared.Command.{Command}
 use Rattle.command.specs.declared.Command.the-variants.{EnableConfig, EndConfig, SetMaxGates, ReadParameters}
@@ -50,8 +51,9 @@ word-asking ReadMac = refl
 frame-asks : (c : Command) → Asks (commandFrame c)
 frame-asks c =
     let d = dataWith (wordOf c) (valueOf c) in
-    let short = leb-true (length d) 65535 (data-framable (wordOf c) (valueOf c)) in
-    framed-asks d short (data-worded (wordOf c) (valueOf c)) (word-asking c)
+    let size = frame-length Family.Command d in
+    let bounds = frame-bounds c in
+    framed-asks d (omega arith) (omega arith) (word-asking c)
 
 module _ (s : List ℕ) where
   encodes-asks : (c : Command) → EncodesTo c s → Asks s

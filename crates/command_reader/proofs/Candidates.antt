@@ -6,19 +6,19 @@ use Prim.Native.Nat.{ℕ, _/_, _%_, _≤_}
 use native.Mathlib.Omega.{arith}
 use lib.Dec.{leb}
 use borrow.Author.Tests.{leb-true, ne-eqb}
-use Rattle.number.specs.Number.{little, le16At}
+use Rattle.wire.specs.Number.{little, le16At}
 use Rattle.wire.specs.Family.{framed}
-use Rattle.byte_string.proofs.Equality.{both-true}
-use Rattle.setting.specs.Setting.{gateValue, gateKnown, farthest, sensitivity}
-use Rattle.request.specs.Request.{dataWith}
+use Rattle.wire.proofs.Equality.{both-true}
+use Rattle.command.specs.Setting.{gateValue, gateKnown, farthest, sensitivity}
+use Rattle.cursor.specs.Request.{dataWith}
 use Rattle.command.specs.Command.{commandFrame, encodable}
-use Rattle.asking.specs.Asking.{numberIn}
+use Rattle.command_reader.specs.Asking.{numberIn}
 use Rattle.command_reader.specs.Candidate.{gateFor, baudFor, candidate, candidateIn}
-use Rattle.setting.specs.declared.Gate.{Gate}
-use Rattle.setting.specs.declared.Gate.the-variants.{Index, All}
-use Rattle.setting.specs.declared.Baud.{Baud}
-use Rattle.setting.specs.declared.Baud.the-variants.{B9600, B19200, B38400, B57600}
-use Rattle.setting.specs.declared.Baud.the-variants.{B115200, B230400, B256000, B460800}
+use Rattle.command.specs.declared.setting.Gate.{Gate}
+use Rattle.command.specs.declared.setting.Gate.the-variants.{Index, All}
+use Rattle.command.specs.declared.setting.Baud.{Baud}
+use Rattle.command.specs.declared.setting.Baud.the-variants.{B9600, B19200, B38400, B57600}
+use Rattle.command.specs.declared.setting.Baud.the-variants.{B115200, B230400, B256000, B460800}
 use Rattle.command.specs.declared.Command.{Command}
 use Rattle.command.specs.declared.Command.the-variants.{EnableConfig, EndConfig, SetMaxGates, ReadParameters}
 use Rattle.command.specs.declared.Command.the-variants.{EngineeringMode, SetSensitivity, ReadFirmware, SetBaud}

@@ -7,3 +7,6 @@ pub mod Reading
 pub mod Answers
 -- The encoder and the reader agree.
 pub mod RoundTrip
+-- Laws about the definitions, which the proofs of this crate and of the crates above cite.
+-- Frames that ask, by the envelope's answer.
+pub mod AskingAsking

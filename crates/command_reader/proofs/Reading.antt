@@ -5,8 +5,8 @@ use mathlib.Core.Bool.{Bool, true, false}
 use Prim.Native.Nat.{ℕ, _≤_}
 use native.Mathlib.Omega.{arith}
 use lib.ListN.{length, take}
-use Rattle.byte_string.specs.Equal.{sameBytes}
-use Rattle.byte_string.proofs.Equality.{both-true, same-sound, same-complete}
+use Rattle.wire.specs.Equal.{sameBytes}
+use Rattle.wire.proofs.Equality.{both-true, same-sound, same-complete}
 use Rattle.refusal.specs.declared.Error.{Error}
 use Rattle.refusal.specs.declared.Error.the-variants.{Unsupported, UnknownCommand}
 use Rattle.writer.specs.Written.{written}
@@ -19,7 +19,7 @@ use Rattle.command_reader.specs.Candidate.{encodesTo, ifEncodesTo}
 use Rattle.command_reader.specs.Read.{EncodesTo}
 use Rattle.command.specs.declared.Command.{Command}
 use Rattle.command_reader.specs.declared.CommandResult.the-variants.{Ok, Err}
-use Rattle.command.proofs.Frames.{frame-short}
+use Rattle.command.proofs.Frames.{frame-bounds}
 
 module _ (s : List ℕ) (c : Command) where
   -- The test is the meaning.
@@ -68,7 +68,7 @@ module _ (c : Command) (out left : List ℕ) (r : WriteResult)
       go : (b : Bool) → encodable c ≡ b → encodable c ≡ false
       go true g =
           let f = commandFrame c in
-          let w = wrote-whole f out (length f) (written out f) refl (omega (arith, frame-short c)) refl .0 in
+          let w = wrote-whole f out (length f) (written out f) refl (omega (arith, frame-bounds c .1)) refl .0 in
           let t = rw g at (h .0) in
           let z : _≡_ {A = ℕ} 0 1 = cc in
           absurd (omega arith)

@@ -3,16 +3,16 @@ use mathlib.Core.Path.{refl, sym}
 use mathlib.Core.List.{List, _++_}
 use Prim.Native.Nat.{ℕ}
 use native.Mathlib.Omega.{arith}
-use Rattle.number.specs.Bytes.{Bytes}
-use Rattle.number.specs.Number.{leBytes}
+use Rattle.wire.specs.Bytes.{Bytes}
+use Rattle.wire.specs.Number.{leBytes}
 use Rattle.refusal.specs.declared.Error.the-variants.{Unsupported}
-use Rattle.put.proofs.Bytes.{bytes-append, bytes-leBytes, framed-bytes}
+use Rattle.writer.proofs.Bytes.{bytes-append, bytes-leBytes, framed-bytes}
 use Rattle.wire.specs.declared.Kind.the-variants as Family
 use Rattle.writer.specs.RoundTrip.{RoundTrip}
 use Rattle.writer.proofs.RoundTrip.{round-trip}
-use Rattle.request.specs.Request.{recordBytes, valueBytes, dataWith}
-use Rattle.request.specs.declared.Value.{Value}
-use Rattle.request.specs.declared.Value.the-variants as Of
+use Rattle.cursor.specs.Request.{recordBytes, valueBytes, dataWith}
+use Rattle.cursor.specs.declared.maker.Value.{Value}
+use Rattle.cursor.specs.declared.maker.Value.the-variants as Of
 use Rattle.command.specs.Command.{wordOf, valueOf, encodable}
 use Rattle.command.specs.declared.Command.{Command}
 use Rattle.command_reader.specs.Read.{EncodesTo, ReadTo, is-command, commands}

@@ -9,16 +9,16 @@ use mathlib.Core.List.{List, [], _∷_}
 use mathlib.Core.Bool.{Bool, true, false, cond, _&&_}
 use Prim.Native.Nat.{ℕ, _%_}
 use lib.Dec.{eqb}
-use Rattle.byte_string.specs.Equal.{sameBytes}
+use Rattle.wire.specs.Equal.{sameBytes}
 use Rattle.refusal.specs.declared.Error.the-variants.{UnknownCommand}
-use Rattle.setting.specs.Setting.{baudOf}
-use Rattle.setting.specs.declared.Gate.{Gate}
-use Rattle.setting.specs.declared.Gate.the-variants.{Index, All}
-use Rattle.setting.specs.declared.Baud.{Baud}
-use Rattle.setting.specs.declared.Baud.the-variants.{B9600}
-use Rattle.setting.specs.declared.MaybeBaud.{MaybeBaud}
-use Rattle.setting.specs.declared.MaybeBaud.the-variants as Rate
-use Rattle.asking.specs.Asking.{numberIn}
+use Rattle.command.specs.Setting.{baudOf}
+use Rattle.command.specs.declared.setting.Gate.{Gate}
+use Rattle.command.specs.declared.setting.Gate.the-variants.{Index, All}
+use Rattle.command.specs.declared.setting.Baud.{Baud}
+use Rattle.command.specs.declared.setting.Baud.the-variants.{B9600}
+use Rattle.command.specs.declared.setting.MaybeBaud.{MaybeBaud}
+use Rattle.command.specs.declared.setting.MaybeBaud.the-variants as Rate
+use Rattle.command_reader.specs.Asking.{numberIn}
 use Rattle.command.specs.Command.{commandFrame, encodable}
 use Rattle.command.specs.declared.Command.{Command}
 use Rattle.command.specs.declared.Command.the-variants.{EnableConfig, EndConfig, SetMaxGates, ReadParameters}

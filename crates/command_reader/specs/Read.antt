@@ -13,7 +13,7 @@ use mathlib.Core.Option.{Option, none, some}
 use Prim.Native.Nat.{ℕ}
 use Rattle.refusal.specs.Refusal.{Returned, accepted, refused}
 use Rattle.refusal.specs.declared.Error.the-variants.{InvalidFormat, UnknownCommand}
-use Rattle.asking.specs.Asking.{Asks}
+use Rattle.command_reader.specs.Asking.{Asks}
 use Rattle.writer.specs.RoundTrip.{Codec}
 use Rattle.command.specs.Command.{commandFrame, encodable, unsupported}
 use Rattle.command.specs.declared.Command.{Command}

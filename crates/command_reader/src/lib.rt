@@ -1,14 +1,16 @@
 // The reader of command frames: the command that encodes to the bytes.
 //
 // The word and the values in a frame leave one command that may encode to it: the reader encodes it, and compares.
+mod asking;
+
 use asking::asks;
 use asking::number_in;
-use byte_string::same;
+use command::Baud;
 use command::Command;
+use command::Gate;
+use command::MaybeBaud;
 use refusal::Error;
-use setting::Baud;
-use setting::Gate;
-use setting::MaybeBaud;
+use wire::same;
 use wire::word;
 use writer::WriteResult;
 ghost use mathlib.Core.Path.{_≡_};

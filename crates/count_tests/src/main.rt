@@ -3,9 +3,9 @@
 use counting::feed_all;
 use counting::print_counts;
 use counting::read_all;
+use ld2410::Parser;
 use libc::STDIN_FILENO;
 use libc::STDOUT_FILENO;
-use parser::Parser;
 
 // The parser's numbers, on a line.
 fn show(parser: Parser) {
@@ -31,7 +31,7 @@ fn main() {
     show(read_all(-1));
     // 5,000 bytes F4, in one call: each but the last is a start that the next one breaks.
     show(feed_all(Parser::new(), &[0xF4; 5000]));
-    // "F4 F3, then reset: all counters 0", before the reset and behind it.
+    // "F4 F3, then reset: all counters 0", before the reset and after it.
     let begun = feed_all(Parser::new(), &[0xF4, 0xF3]);
     show(begun);
     show(begun.cleared());

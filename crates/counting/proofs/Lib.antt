@@ -1,6 +1,6 @@
 -- A slice fed is its first bytes, fed one by one.
 pub mod Slices
--- Bytes fed behind others.
+-- Bytes fed after others.
 pub mod Appended
 -- What is left of the bytes, fed from here, leaves the parser that all of them leave.
 pub mod Rest

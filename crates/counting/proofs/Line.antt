@@ -5,7 +5,7 @@ use mathlib.Core.List.{List, [], _++_}
 use Prim.Native.Nat.{ℕ, _+_}
 use native.Mathlib.Omega.{arith}
 use lib.ListN.{length}
-use Rattle.limit.specs.Length.{linkMost}
+use Rattle.stream.specs.Length.{linkLimit}
 use Rattle.framing.specs.Piece.{Piece}
 use Rattle.framing.specs.Division.{cut}
 use Rattle.framing.specs.Tally.{sum}
@@ -26,8 +26,8 @@ pub fed-all : (p : List ℕ) (x : Parser) → Demand3 p x → (s : List ℕ) →
 fed-all p x demand s h =
     let y = demand (feeds s) (feeds-bytes s h) in
     let pieces : List ℕ → List Piece = λ t. y .divide t .pieces in
-    let last = feeds-so-far (engine linkMost) s p x in
-    let only = feeds-stretch (engine linkMost) s p x in
+    let last = feeds-so-far (engine linkLimit) s p x in
+    let only = feeds-stretch (engine linkLimit) s p x in
     record {
       pieces = pieces (p ++ s);
       division = y .divide (p ++ s) .division;

@@ -7,8 +7,8 @@ use mathlib.Core.Path.{_≡_}
 use mathlib.Core.List.{List, _++_}
 use Prim.Native.Nat.{ℕ, _+_, min}
 use lib.ListN.{length}
-use Rattle.number.specs.Counter.{counterMost}
-use Rattle.limit.specs.Length.{linkMost}
+use Rattle.wire.specs.Counter.{counterMax}
+use Rattle.stream.specs.Length.{linkLimit}
 use Rattle.framing.specs.Piece.{Piece}
 use Rattle.framing.specs.Division.{Division, cut}
 use Rattle.framing.specs.Tally.{sum}
@@ -22,18 +22,18 @@ use Rattle.counting.specs.declared.Counts.{Counts}
 
 pub record FedAll (p : List ℕ) (x : Parser) (s : List ℕ) (q : Parser) : Type 0 where
   pub pieces : List Piece
-  pub division : Division (Open linkMost) (Whole linkMost) (p ++ s) pieces
-  pub counted : (k : Counter) → counterIn k (q .stats) ≡ min (counterIn k (x .stats) + sum (adds k) pieces) counterMost
-  pub pending : pendingBy linkMost q ≡ cut pieces
-  pub unfinished : unfinishedOf linkMost q ≡ length (cut pieces)
+  pub division : Division (Open linkLimit) (Whole linkLimit) (p ++ s) pieces
+  pub counted : (k : Counter) → counterIn k (q .stats) ≡ min (counterIn k (x .stats) + sum (adds k) pieces) counterMax
+  pub pending : pendingBy linkLimit q ≡ cut pieces
+  pub unfinished : unfinishedOf linkLimit q ≡ length (cut pieces)
 
 pub record Counted (s : List ℕ) (n : Counts) : Type 0 where
   pub pieces : List Piece
-  pub division : Division (Open linkMost) (Whole linkMost) s pieces
-  pub frames-are : n .frames ≡ min (sum (adds frames) pieces) counterMost
-  pub resyncs-are : n .resyncs ≡ min (sum (adds resyncs) pieces) counterMost
-  pub dropped-are : n .dropped ≡ min (sum (adds dropped) pieces) counterMost
-  pub malformed-are : n .malformed ≡ min (sum (adds malformed) pieces) counterMost
+  pub division : Division (Open linkLimit) (Whole linkLimit) s pieces
+  pub frames-are : n .frames ≡ min (sum (adds frames) pieces) counterMax
+  pub resyncs-are : n .resyncs ≡ min (sum (adds resyncs) pieces) counterMax
+  pub dropped-are : n .dropped ≡ min (sum (adds dropped) pieces) counterMax
+  pub malformed-are : n .malformed ≡ min (sum (adds malformed) pieces) counterMax
   pub unfinished-is : n .unfinished ≡ length (cut pieces)
 
 pub record Line (n : Counts) : Type 0 where

@@ -1,6 +1,6 @@
 -- The line that the counting program prints.
 --   countsOf p   "frames, resyncs, dropped, malformed and unfinished length", of the parser p
-use Rattle.limit.specs.Length.{linkMost}
+use Rattle.stream.specs.Length.{linkLimit}
 use Rattle.parser.specs.Feed.{unfinishedOf}
 use Rattle.parser.specs.declared.Parser.{Parser}
 use Rattle.counting.specs.declared.Counts.{Counts}
@@ -11,5 +11,5 @@ countsOf p = record {
   resyncs = p .stats .resyncs;
   dropped = p .stats .dropped;
   malformed = p .stats .malformed;
-  unfinished = unfinishedOf linkMost p;
+  unfinished = unfinishedOf linkLimit p;
 }

@@ -1,8 +1,9 @@
 // Counting what a stream holds: bytes of any number fed to a parser, and its numbers printed on one line.
-use parser::Parser;
+use feed::feed_slice_at;
+use ld2410::Parser;
 ghost use mathlib.Core.Path.{_≡_};
 ghost use Prim.Native.Nat.{_<_};
-ghost use Rattle.limit.specs.Length.{linkMost};
+ghost use Rattle.stream.specs.Length.{linkLimit};
 ghost use Rattle.engine.specs.Bytes.{Bytes};
 ghost use Rattle.engine.specs.Calls.{feeds};
 ghost use Rattle.parser.specs.Claims.{left};
@@ -14,25 +15,29 @@ ghost use Rattle.counting.specs.Reached.{Reached, turnOf, Turned};
 ghost use lib.ListN.{length, take};
 ghost use Rattle.io.specs.Counts.{clamped};
 
-// Feeds all of `bytes`: a slice feed stops behind each whole frame, and is called again with the rest. The parser is
+// Feeds all of `bytes`: a slice feed stops after each whole frame, and is called again with the rest. The parser is
 // left as by feeding the bytes one by one, and has counted what demand 3 says, whatever parser it was; of no bytes it
-// is left as it was.
+// is left as it was. The loop has the parser in its parts, and lends the buffer: no byte of it is copied in a turn.
 pub fn feed_all(parser: Parser, bytes: &[u8]) -> Parser
     ensures fed { λ r. ⌜ r ≡ left parser (feeds (now (bytes .entry))) ⌝ }
     ensures bytes { λ _. ⌜ Bytes (now (bytes .entry)) ⌝ }
     ensures counted { λ r. ⌜ (0 < length (now (bytes .entry))
-        → FedAll (pendingBy linkMost parser) parser (now (bytes .entry)) r) ⌝ }
+        → FedAll (pendingBy linkLimit parser) parser (now (bytes .entry)) r) ⌝ }
 {
-    let mut at = parser;
+    let mut buf = parser.buf;
+    let mut scan = parser.scan;
+    let mut stats = parser.stats;
     let mut i = 0;
     while i < bytes.len() {
-        let fed = at.fed_slice(&bytes[i..]);
-        let taken = fed.answer;
-        let next = fed.parser;
-        at = next;
+        let moved = feed_slice_at(&mut buf, scan, stats, &bytes[i..]);
+        let next = moved.scan;
+        scan = next;
+        let counted = moved.stats;
+        stats = counted;
+        let taken = moved.answer;
         i += taken.count;
     }
-    at
+    Parser { buf, scan, stats }
 }
 
 // What a read leaves, and whether more may come.
@@ -127,7 +132,7 @@ fn print_line(fd: i32, counts: Counts) {
     print_number(fd, counts.unfinished as u64, b"\n");
 }
 
-// Prints a number, and what stands behind it.
+// Prints a number, and what stands after it.
 fn print_number(fd: i32, n: u64, end: &[u8]) {
     io::print_decimal(fd, n);
     io::write_all(fd, end);

@@ -22,9 +22,9 @@ use denote.Builtin.{usize}
 use denote.Steps.{owned, nothing}
 use denote.Triple.Statement.{Contract}
 use denote.Triple.Clauses.{ensured, lasts}
-use Rattle.put.specs.declared.Placed.{Placed}
+use Rattle.writer.specs.declared.puts.Placed.{Placed}
 use Rattle.writer.specs.declared.WriteResult.{WriteResult}
-use Rattle.put.proofs.Placed as S
+use Rattle.writer.proofs.puts.Placed as S
 use Rattle.cursor.specs.Held.{nextAt, toldBy}
 use Rattle.cursor.proofs.after as after
 use Rattle.cursor.proofs.tell as tell

@@ -21,8 +21,8 @@ use denote.Triple.Clauses.{Ended, Clauses, closing}
 use denote.Triple.Walked.{Stays, stay-ref}
 use denote.Exit.{yes}
 use denote.Signature.{Slot, plain, namedLft}
-use Rattle.put.specs.Put.{placed, putIn}
-use Rattle.put.proofs.Placed as S
+use Rattle.writer.specs.Put.{placed, putIn}
+use Rattle.writer.proofs.puts.Placed as S
 use Rattle.writer.proofs.WriteResult as Y
 use Rattle.cursor.specs.Held.{told, moved}
 use Rattle.cursor.proofs.Cursor as T

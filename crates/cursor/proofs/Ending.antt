@@ -1,6 +1,6 @@
 -- The end of every method's walk (Thin.antt), from where g has returned: the position that `after` says is stored, the
 -- answer is told, the struct is put together again, and the borrow of the cursor is closed at the cursor that is left.
---   Back, Behind   what is had where g has returned, and where the answer is in its place
+--   Back, After   what is had where g has returned, and where the answer is in its place
 --   ended          the walk from the one to the other
 -- Assumes `Given`.
 use mathlib.Core.Path.{_≡_, refl, ap}
@@ -35,11 +35,11 @@ use denote.Signature.Struct.{makes}
 use denote.Triple.Statement.{Triple}
 use denote.Triple.Call.{calls-at}
 use denote.Triple.Clauses.{ensured}
-use Rattle.put.specs.Put.{placed, putIn}
-use Rattle.put.specs.declared.Placed.{Placed}
+use Rattle.writer.specs.Put.{placed, putIn}
+use Rattle.writer.specs.declared.puts.Placed.{Placed}
 use Rattle.writer.specs.declared.WriteResult.{WriteResult}
-use Rattle.put.proofs.Placed as S
-use Rattle.put.proofs.Placed.Laws as S′
+use Rattle.writer.proofs.puts.Placed as S
+use Rattle.writer.proofs.puts.Placed.Laws as S′
 use Rattle.writer.proofs.WriteResult as Y
 use Rattle.writer.proofs.WriteResult.Laws as Y′
 use Rattle.cursor.specs.declared.Cursor.{Cursor}

@@ -29,9 +29,9 @@ use denote.Triple.Statement.{Triple}
 use denote.Triple.Clauses.{ensured, lasts}
 use denote.Triple.Walked.{says, walkOf, hasOf, ends-at}
 use denote.Signature.{typesAt}
-use Rattle.put.specs.Put.{placed, putIn}
-use Rattle.put.specs.declared.Placed.{Placed}
-use Rattle.put.proofs.Placed as S
+use Rattle.writer.specs.Put.{placed, putIn}
+use Rattle.writer.specs.declared.puts.Placed.{Placed}
+use Rattle.writer.proofs.puts.Placed as S
 use Rattle.cursor.specs.declared.Cursor.{Cursor}
 use Rattle.cursor.specs.Held.{told, moved}
 use Rattle.cursor.proofs.Param.{Extra}

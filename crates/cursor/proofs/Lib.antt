@@ -18,5 +18,19 @@ pub mod Lend
 pub mod Calls
 pub mod Begins
 pub mod Puts
--- Parts put one behind the other.
+-- Parts put one after the other.
 pub mod Parts
+-- The contract of a maker, and that one meets it where its code walks.
+pub mod Made
+pub mod MakerMeets
+-- A maker's locals and its numbers; the methods; its code, over the calls; the walk of the calls, of its end, and of
+-- all of it.
+pub mod Rows
+pub mod Numbers
+pub mod Methods
+pub mod MakerShape
+pub mod Calling
+pub mod Answer
+pub mod MakerMaker
+-- A frame made of its parts.
+pub mod Requests

@@ -20,7 +20,7 @@ use types.Run.{enter, alloc1, alloc0, params1, pass1, pass0, free1, free0}
 use denote.Ref.{MutRef}
 use denote.Triple.Spec.{Meets}
 use denote.Triple.Clauses.{closing}
-use Rattle.put.proofs.Placed.Laws as S′
+use Rattle.writer.proofs.puts.Placed.Laws as S′
 use Rattle.writer.proofs.WriteResult.Laws as Y′
 use Rattle.cursor.proofs.Param.{Single, Double, single, double}
 use Rattle.cursor.proofs.Contracts.{f-ended, g-ended, f-clauses, g-clauses, Callee}
@@ -33,7 +33,7 @@ use Rattle.cursor.proofs.tell.Symbol as tell-def
 use Rattle.cursor.proofs.tell.Symbol.{name as #tell}
 use Rattle.cursor.proofs.Meets.{Walk, method}
 
--- the locals behind the parameters
+-- the locals after the parameters
 abbrev rest : List Local
 rest = local (tyInt w64) valueLocal
     ∷ local S′.mir valueLocal

@@ -1,4 +1,4 @@
--- Parts put one behind the other: a buffer keeps its length, and where there is room for all of them, all are written.
+-- Parts put one after the other: a buffer keeps its length, and where there is room for all of them, all are written.
 use mathlib.Core.Path.{_≡_, refl, _∙_}
 use mathlib.Core.Bool.{Bool, true, false, cond}
 use mathlib.Core.List.{List, [], _∷_, _++_, append-nil, append-assoc}
@@ -8,10 +8,10 @@ use lib.Dec.{leb}
 use lib.ListN.{length, length-append, length-drop}
 use lib.Seq.{length-take-le}
 use borrow.Author.Tests.{leb-true}
-use Rattle.byte_string.specs.Prefix.{over}
-use Rattle.put.specs.Put.{placed, putIn}
+use Rattle.wire.specs.Prefix.{over}
+use Rattle.writer.specs.Put.{placed, putIn}
 use Rattle.writer.specs.Written.{written}
-use Rattle.put.proofs.Puts.{placed-fits}
+use Rattle.writer.proofs.PutPuts.{placed-fits}
 use Rattle.writer.proofs.Chain.{written-nil, written-length, put-behind}
 use Rattle.cursor.specs.Held.{nextAt}
 use Rattle.cursor.specs.Parts.{putAll, endAll, joined}
@@ -38,7 +38,7 @@ pub parts-length : (out : List ℕ) (at : ℕ) (bs : List (List ℕ)) → length
 parts-length out at [] = refl
 parts-length out at (b ∷ bs) = parts-length (putIn out at b) (nextAt at (placed out at b)) bs ∙ put-length out at b
 
--- The parts bs behind what is written.
+-- The parts bs after what is written.
 module _ (out : List ℕ) where
   parts-behind : (p : List ℕ) (bs : List (List ℕ)) → length p + length (joined bs) ≤ length out
       → (putAll (written out p) (length p) bs ≡ written out (p ++ joined bs))

@@ -1,5 +1,5 @@
 -- The puts of a maker's walk (Begins.antt):
---     puts-number    c.u16(v); c.u32(v);
+--     puts-number    c.u16(v);
 --     puts-numbers   c.record(k, v);
 --     puts-bytes     c.put(s);
 -- A call asks room for the reference that is lent and for the method's answer, and leaves it.

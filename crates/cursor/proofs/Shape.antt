@@ -4,7 +4,7 @@
 --     self.pos = after(at, p);
 --     tell(self.needed, p)
 --   thin          its MIR, over g's name, the operands handed on to g, and the numbers of its locals; thin-end, what
---                 of it stands behind the call of g
+--                 of it stands after the call of g
 --   R, x, h, s    a cursor's type, the borrow in it, itself, and its slice's machine value
 --   mach, Is-held its own machine value, and what is known of one that is held: pos-fits, needed-fits, room
 --   Done          what is had of the cursor, and of the answer, once the bytes are put
@@ -33,11 +33,11 @@ use denote.Builtin.{u8}
 use denote.Ref.{RefT, NamedLft}
 use denote.Slice.{sliceVal, sliceName, finally, Room}
 use denote.Struct.Laws as LL
-use Rattle.put.specs.Put.{placed, putIn}
-use Rattle.put.specs.declared.Placed.{Placed}
+use Rattle.writer.specs.Put.{placed, putIn}
+use Rattle.writer.specs.declared.puts.Placed.{Placed}
 use Rattle.writer.specs.declared.WriteResult.{WriteResult}
-use Rattle.put.proofs.Placed as S
-use Rattle.put.proofs.Placed.Laws as S′
+use Rattle.writer.proofs.puts.Placed as S
+use Rattle.writer.proofs.puts.Placed.Laws as S′
 use Rattle.writer.proofs.WriteResult as Y
 use Rattle.cursor.specs.declared.Cursor.{Cursor}
 use Rattle.cursor.specs.Held.{nextAt, toldBy, told, moved}

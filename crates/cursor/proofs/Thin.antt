@@ -41,10 +41,10 @@ use denote.Struct.Laws as LL
 use denote.Struct.Rest.{all-own, own-open}
 use denote.Triple.Statement.{Triple}
 use denote.Triple.Call.{calls-from}
-use Rattle.put.specs.Put.{placed, putIn}
-use Rattle.put.specs.declared.Placed.{Placed}
-use Rattle.put.proofs.Placed as S
-use Rattle.put.proofs.Placed.Laws as S′
+use Rattle.writer.specs.Put.{placed, putIn}
+use Rattle.writer.specs.declared.puts.Placed.{Placed}
+use Rattle.writer.proofs.puts.Placed as S
+use Rattle.writer.proofs.puts.Placed.Laws as S′
 use Rattle.writer.proofs.WriteResult.Laws as Y′
 use Rattle.cursor.specs.declared.Cursor.{Cursor}
 use Rattle.cursor.proofs.Cursor as T

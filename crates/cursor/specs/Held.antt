@@ -1,5 +1,5 @@
 -- A writer that holds the caller's slice: what a put through it answers, and the cursor that it leaves.
---   nextAt at p    the place of the next byte after a put at place at that answered p: behind the bytes, or as it was
+--   nextAt at p    the place of the next byte after a put at place at that answered p: after the bytes, or as it was
 --   toldBy n p     the answer to p: the bytes written so far, or 4 with the n bytes that are needed in all
 --   puts c b       how the bytes b are placed by the cursor c: in its slice, at its position
 --   told c b       what c answers to them
@@ -8,9 +8,9 @@ use mathlib.Core.List.{List}
 use Prim.Native.Nat.{ℕ}
 use denote.Ref.{now, at-last}
 use Rattle.refusal.specs.declared.Error.the-variants.{BufferTooSmall}
-use Rattle.put.specs.Put.{placed, putIn}
-use Rattle.put.specs.declared.Placed.{Placed}
-use Rattle.put.specs.declared.Placed.the-variants.{End, TooSmall}
+use Rattle.writer.specs.Put.{placed, putIn}
+use Rattle.writer.specs.declared.puts.Placed.{Placed}
+use Rattle.writer.specs.declared.puts.Placed.the-variants.{End, TooSmall}
 use Rattle.writer.specs.declared.WriteResult.{WriteResult}
 use Rattle.writer.specs.declared.WriteResult.the-variants.{Ok, Err}
 use Rattle.cursor.specs.declared.Cursor.{Cursor}

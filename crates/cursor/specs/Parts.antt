@@ -1,10 +1,10 @@
--- Parts put into a buffer one behind the other, each where it fits.
+-- Parts put into a buffer one after the other, each where it fits.
 --   putAll out at bs   the buffer left after the parts bs are put from place at on
---   endAll out at bs   the place behind them
+--   endAll out at bs   the place after them
 --   joined bs          the parts as one byte string
 use mathlib.Core.List.{List, [], _∷_, _++_}
 use Prim.Native.Nat.{ℕ}
-use Rattle.put.specs.Put.{placed, putIn}
+use Rattle.writer.specs.Put.{placed, putIn}
 use Rattle.cursor.specs.Held.{nextAt}
 
 abbrev pub putAll : List ℕ → ℕ → List (List ℕ) → List ℕ

@@ -1,32 +1,34 @@
-// A writer that holds the caller's slice: bytes, numbers and records put one behind the other, each as a whole or not
+// A writer that holds the caller's slice: bytes, numbers and records put one after the other, each as a whole or not
 // at all.
 //
 // Every method is total: where there is too little room it refuses with 4 and the bytes needed in all, and neither the
-// slice nor the position changes. `Cursor` is for the writers of this link, and so is its 4: it is no refusal of a
-// public entry point. There 4 means that the output is shorter than the frame, which a writer tests before it puts
-// anything.
-use put::Placed;
-use put::put;
-use put::put_record;
-use put::put_u16;
-use put::put_u32;
+// slice nor the position changes. `Cursor` is private to this crate, and so is its 4. To a caller 4 means that the
+// output is shorter than the frame, which `put_value` tests before anything is put.
+mod maker;
+
+pub use maker::Value;
+pub use maker::put_value;
 use refusal::Error;
+use writer::Placed;
 use writer::WriteResult;
+use writer::put;
+use writer::put_record;
+use writer::put_u16;
 ghost use mathlib.Core.Path.{_≡_};
 ghost use mathlib.Core.List.{_++_};
-ghost use Rattle.number.specs.Number.{leBytes};
+ghost use Rattle.wire.specs.Number.{leBytes};
 ghost use Rattle.cursor.specs.Held.{nextAt, toldBy, told, moved};
 
 // The caller's slice, the position of the next byte in it, and the bytes needed in all, which a refusal tells.
-pub struct Cursor<'a> {
-    pub out: &'a mut [u8],
-    pub pos: usize,
-    pub needed: usize,
+struct Cursor<'a> {
+    out: &'a mut [u8],
+    pos: usize,
+    needed: usize,
 }
 
 impl<'a> Cursor<'a> {
     // A cursor at the front of the slice.
-    pub fn new(out: &'a mut [u8], needed: usize) -> Cursor<'a>
+    fn new(out: &'a mut [u8], needed: usize) -> Cursor<'a>
         ensures made { λ r. ⌜ (r .out ≡ out .entry) × (r .pos ≡ 0) × (r .needed ≡ needed) ⌝ }
     {
         Cursor {
@@ -37,7 +39,7 @@ impl<'a> Cursor<'a> {
     }
 
     // Puts the bytes.
-    pub fn put(&mut self, bytes: &[u8]) -> WriteResult
+    fn put(&mut self, bytes: &[u8]) -> WriteResult
         ensures told { λ r. ⌜ r ≡ told (now (self .entry)) (now (bytes .entry)) ⌝ }
         ensures left { λ _. ⌜ now (self .exit) ≡ moved (now (self .entry)) (now (bytes .entry)) ⌝ }
     {
@@ -48,7 +50,7 @@ impl<'a> Cursor<'a> {
     }
 
     // Puts a two-byte number.
-    pub fn u16(&mut self, v: u16) -> WriteResult
+    fn u16(&mut self, v: u16) -> WriteResult
         ensures told { λ r. ⌜ r ≡ told (now (self .entry)) (leBytes 2 v) ⌝ }
         ensures left { λ _. ⌜ now (self .exit) ≡ moved (now (self .entry)) (leBytes 2 v) ⌝ }
     {
@@ -58,19 +60,8 @@ impl<'a> Cursor<'a> {
         tell(self.needed, p)
     }
 
-    // Puts a four-byte number.
-    pub fn u32(&mut self, v: u32) -> WriteResult
-        ensures told { λ r. ⌜ r ≡ told (now (self .entry)) (leBytes 4 v) ⌝ }
-        ensures left { λ _. ⌜ now (self .exit) ≡ moved (now (self .entry)) (leBytes 4 v) ⌝ }
-    {
-        let at = self.pos;
-        let p = put_u32(&mut *self.out, at, v);
-        self.pos = after(at, p);
-        tell(self.needed, p)
-    }
-
     // Puts a record: a parameter's number in two bytes, its value in four.
-    pub fn record(&mut self, param: u16, value: u32) -> WriteResult
+    fn record(&mut self, param: u16, value: u32) -> WriteResult
         ensures told { λ r. ⌜ r ≡ told (now (self .entry)) (leBytes 2 param ++ leBytes 4 value) ⌝ }
         ensures left { λ _. ⌜ now (self .exit) ≡ moved (now (self .entry)) (leBytes 2 param ++ leBytes 4 value) ⌝ }
     {

@@ -50,7 +50,7 @@ module _ {S A K : Type 0} (E : Engine S A K) where
   -- unfinished, and the whole frames.
   pub accounts : (P : Protocol A K) (k : K) → ((q : Piece) → P .adds k q ≡ lost q)
       → (p : List ℕ) (s : S) (calls : List Call) (x : Fulfilled P E p s calls) → Every Goes calls
-      → E .counter k s ≡ 0 → E .counter k (final E s calls) < E .most
+      → E .counter k s ≡ 0 → E .counter k (final E s calls) < E .max
       → length (p ++ takenBy (history E s calls)) ≡ E .counter k (final E s calls) + E .unfinished (final E s calls)
       + sum framed (x .divide (p ++ takenBy (history E s calls)) .pieces)
   accounts P k e p s calls x g zero room =
@@ -103,7 +103,7 @@ same-over f g e (t ∷ ts) = omega (arith, e t, same-over f g e ts)
 pub frames-delivered : {S A K : Type 0} (E : Engine S A K) (P : Protocol A K) (k : K)
     → ((q : Piece) → P .adds k q ≡ passed (P .decodes) q) → (p : List ℕ) (s : S) (calls : List Call)
     → Fulfilled P E p s calls → E .counter k (final E s calls)
-    ≡ min (E .counter k s + length (deliveries (P .delivers) (history E s calls))) (E .most)
+    ≡ min (E .counter k s + length (deliveries (P .delivers) (history E s calls))) (E .max)
 frames-delivered E P k e p s calls x =
     let ts = stretches p (history E s calls) in
     let pieces : List ℕ → List Piece = λ t. x .divide t .pieces in

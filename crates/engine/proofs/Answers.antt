@@ -1,4 +1,4 @@
--- Answers and counts behind the open string p: what one byte does to them, and bytes that stand before a call.
+-- Answers and counts after the open string p: what one byte does to them, and bytes that stand before a call.
 use mathlib.Core.Path.{_≡_, refl, sym, _∙_, ap, subst}
 use mathlib.Core.Logic.{_≢_}
 use mathlib.Core.List.{List, [], _∷_, _++_, append-assoc, cons≢nil}
@@ -17,7 +17,7 @@ use Rattle.engine.specs.Calls.{Did, fed, sliced, cleared}
 use Rattle.engine.specs.Fulfilled.{Told, to-frame, to-end}
 use Rattle.engine.proofs.Lawful.{answerAt, Decoding}
 
--- The call took the bytes t behind n bytes of a stretch with the pieces ps. Its answer is that of the frame that ends
+-- The call took the bytes t after n bytes of a stretch with the pieces ps. Its answer is that of the frame that ends
 -- with the last byte taken, and none where no frame ends there or no byte was taken.
 pub data Answering {A : Type 0} (D : Decoding A) (ps : List Piece) (n : ℕ) (t : List ℕ) (a : A) : Type 0 where
   frame : (f : List ℕ) → t ≢ [] → EndsAt ps (n + length t) f → a ≡ D .answerOf f → Answering D ps n t a
@@ -28,7 +28,7 @@ pub placed : (ps : List Piece) {m n : ℕ} {f : List ℕ} → m ≡ n → EndsAt
 placed ps {f = f} e x = subst (λ (i : ℕ). EndsAt ps i f) e x
 
 module _ (F : Framing) where
-  -- What lies behind bytes that the scanner has taken in is shifted.
+  -- What lies after bytes that the scanner has taken in is shifted.
   module _ (p u v : List ℕ) (n j : ℕ) (f : List ℕ) (h : 0 < j) where
     shifted-out : EndsAt (from F (rest F p u) v) (length (rest F p u) + n + j) f
         → EndsAt (from F p (u ++ v)) (length p + (length u + n) + j) f
@@ -46,7 +46,7 @@ module _ (F : Framing) where
   no-event p b v q f x =
       none≢some (sym q ∙ step-event F p b v f (ends-in (placed (from F p (b ∷ v)) (omega arith) x)))
 
-  -- Counts, behind other bytes, and behind one more byte at which no frame ended.
+  -- Counts, after other bytes, and after one more byte at which no frame ended.
   told-behind : (p u v : List ℕ) (n m k : ℕ) → Told (from F (rest F p u) v) (length (rest F p u) + n) m k
       → Told (from F p (u ++ v)) (length p + (length u + n)) m k
   told-behind p u v n m k (to-frame f h l x none-before) = to-frame f h l (shifted-out p u v n k f h x)
@@ -78,7 +78,7 @@ module _ (F : Framing) where
       (placed (from F p (b ∷ bs)) (omega arith) (ends-out (event-step F p b bs f q))) (λ j g h l y. omega arith)
 
   module _ {A : Type 0} (D : Decoding A) where
-    -- Answers, behind other bytes.
+    -- Answers, after other bytes.
     answered-behind : (p u v : List ℕ) (n : ℕ) (t : List ℕ) (a : A)
         → Answering D (from F (rest F p u) v) (length (rest F p u) + n) t a
         → Answering D (from F p (u ++ v)) (length p + (length u + n)) t a
@@ -116,7 +116,7 @@ module _ (F : Framing) where
         (placed (from F p (b ∷ (c ∷ t ++ v))) (omega arith) y))) e
     answered-more p b (c ∷ t) v a q (no-byte z e) = absurd (cons≢nil z)
 
-    -- A whole call, behind p and the bytes u of a stretch that has the bytes v.
+    -- A whole call, after p and the bytes u of a stretch that has the bytes v.
     abbrev pub RightBehind : (p u v : List ℕ) → Did A → Type 0
     RightBehind p u v (fed b a) = Answering D (from F p v) (length p + length u) (b ∷ []) a
     RightBehind p u v (sliced bs k a) = Answering D (from F p v) (length p + length u) (take k bs) a

@@ -39,7 +39,7 @@ module _ (F : Framing) where
       ap (λ (l : List Piece). r .closed ++ l) (closed-append (r .pending) t u)
       ∙ sym (append-assoc (r .closed) (closed F (r .pending) t) (closed F (rest F (r .pending) t) u))
 
-  -- A string that waits closes nothing, and is what is pending behind itself.
+  -- A string that waits closes nothing, and is what is pending after itself.
   waits-closed : (p : List ℕ) → Waits F p → closed F [] p ≡ []
   waits-closed [] w = refl
   waits-closed (b ∷ p) w = sym (division-finished F (is-unfinished cons≢nil (w .0) (w .1)))
@@ -59,14 +59,14 @@ module _ (F : Framing) {A K : Type 0} (D : Decoding A) (C : Counting K) where
 
 module _ (F : Framing) {S A K : Type 0} (D : Decoding A) (C : Counting K) (E : Engine S A K)
     {Valid : S → Type 0} (L : Lawful F D C E Valid) where
-  -- The calls that did ds lead from s to s′; s stands behind the bytes u of a stretch.
+  -- The calls that did ds lead from s to s′; s stands after the bytes u of a stretch.
   record Run (u : List ℕ) (s : S) (ds : List (Did A)) (s′ : S) : Type 0 where
     valid : Valid s′
     stands : E .pending s′ ≡ rest F [] (soFar u ds)
     rights : Rights (protocolOf F D C) (pieces F D C) u ds
     deliver : answersOf D (closed F [] u) ++ deliveries (D .delivers) ds
         ≡ joinOver (λ t. answersOf D (from F [] t)) (stretches u ds)
-    count : (k : K) → (g : ℕ) × (E .counter k s′ ≡ min (E .counter k s + g) (E .most))
+    count : (k : K) → (g : ℕ) × (E .counter k s′ ≡ min (E .counter k s + g) (E .max))
         × (total C k (closed F [] u) + g ≡ sumOver (λ t. total C k (from F [] t)) (stretches u ds))
 
   run-none : (u : List ℕ) (s : S) → Valid s → E .pending s ≡ rest F [] u → Run u s [] s

@@ -68,7 +68,7 @@ pub record Lawful (F : Framing) {S A K : Type 0} (D : Decoding A) (C : Counting 
   pub feed-answer : (s : S) (b : ℕ) → Valid s → Byte b
       → E .feed s b .1 ≡ answerAt D (step F (E .pending s) b .ended)
   pub feed-counter : (s : S) (b : ℕ) → Valid s → Byte b → (k : K)
-      → E .counter k (E .feed s b .0) ≡ min (E .counter k s + total C k (step F (E .pending s) b .closed)) (E .most)
+      → E .counter k (E .feed s b .0) ≡ min (E .counter k s + total C k (step F (E .pending s) b .closed)) (E .max)
   -- a slice: the same as bytes fed one by one up to a frame's end
   pub slice-valid : (s : S) (bs : List ℕ) → Valid s → Bytes bs → Valid (E .slice s bs .state)
   pub slice-pending : (s : S) (bs : List ℕ) → Valid s → Bytes bs
@@ -86,4 +86,4 @@ pub record Lawful (F : Framing) {S A K : Type 0} (D : Decoding A) (C : Counting 
   pub pending-waits : (s : S) → Valid s → Waits F (E .pending s)
   pub pending-length : (s : S) → Valid s → E .unfinished s ≡ length (E .pending s)
   -- no counter is past its most
-  pub capped : (s : S) → Valid s → (k : K) → E .counter k s ≤ E .most
+  pub capped : (s : S) → Valid s → (k : K) → E .counter k s ≤ E .max

@@ -10,13 +10,13 @@ pub mod Stretches
 pub mod Lawful
 -- A byte delivers the frame that it ends.
 pub mod Deliveries
--- Answers and counts behind a pending string.
+-- Answers and counts after a pending string.
 pub mod Answers
 -- What a lawful engine's calls come to.
 pub mod Moves
 -- At a place one frame ends, one answer is right, and one count.
 pub mod Sure
--- A call that is right behind what is pending is right in its stretch.
+-- A call that is right after what is pending is right in its stretch.
 pub mod Rights
 -- A lawful engine fulfils demand 3.
 pub mod Fulfilled

@@ -19,7 +19,7 @@ use Rattle.engine.proofs.Answers.{Answering, no-byte, RightBehind, answ
 use Rattle.engine.proofs.Answers.{told-here}
 use Rattle.engine.proofs.Deliveries.{ifDelivered, answersOf, none-delivered, quiet-more, byte-delivers}
 
--- A call that is the first behind p, whatever follows.
+-- A call that is the first after p, whatever follows.
 pub record DidRight (F : Framing) {A : Type 0} (D : Decoding A) (p : List ℕ) (d : Did A) : Type 0 where
   pub right : (v : List ℕ) → RightBehind F D p [] (taken d ++ v) d
   pub delivered : delivery (D .delivers) d ≡ answersOf D (closed F p (taken d))
@@ -31,7 +31,7 @@ module _ (F : Framing) {S A K : Type 0} (D : Decoding A) (C : Counting K) (E : E
     pub valid : Valid s′
     pub pending : E .pending s′ ≡ rest F (E .pending s) t
     pub counter : (k : K)
-        → E .counter k s′ ≡ min (E .counter k s + total C k (closed F (E .pending s) t)) (E .most)
+        → E .counter k s′ ≡ min (E .counter k s + total C k (closed F (E .pending s) t)) (E .max)
 
   moves-none : (s : S) → Valid s → Moves s [] s
   moves-none s ok = record { valid = ok; pending = refl; counter = λ k. omega (arith, L .capped s ok k) }

@@ -18,10 +18,10 @@ module _ (F : Framing) {S S′ A K : Type 0} (D : Decoding A) (C : Counting K) (
   pub resumed : (s : S) (s′ : S′) (cs ds : List Call)
       → Fulfilled (protocolOf F D C) E (E .pending (final E s cs)) (final E s cs) ds
       → Fulfilled (protocolOf F D C) E′ (E′ .pending s′) s′ ds
-      → E .most ≡ E′ .most → E′ .pending s′ ≡ E .pending (final E s cs)
+      → E .max ≡ E′ .max → E′ .pending s′ ≡ E .pending (final E s cs)
       → ((k : K) → E .counter k (final E s cs) ≡ E′ .counter k s′)
       → history E s (cs ++ ds) ≡ history E s cs ++ history E′ s′ ds
-  resumed s s′ cs ds x y most e counters = history-append (call E) s cs ds
+  resumed s s′ cs ds x y max e counters = history-append (call E) s cs ds
       ∙ ap (λ (l : List (Did A)). history E s cs ++ l)
       (same F D C E E′ (E .pending (final E s cs)) (final E s cs) s′ ds x
-      (subst (λ (p : List ℕ). Fulfilled (protocolOf F D C) E′ p s′ ds) e y) most counters .histories)
+      (subst (λ (p : List ℕ). Fulfilled (protocolOf F D C) E′ p s′ ds) e y) max counters .histories)

@@ -1,5 +1,5 @@
--- A call that is right behind what is pending is right in its stretch.
---   Rights u ds   the claim about each call of a history ds that goes on behind the bytes u of a stretch
+-- A call that is right after what is pending is right in its stretch.
+--   Rights u ds   the claim about each call of a history ds that goes on after the bytes u of a stretch
 use mathlib.Core.Path.{_≡_, refl, _∙_, ap, subst}
 use mathlib.Core.List.{List, [], _∷_, _++_, append-nil, nil≢cons, head-eq-of-cons-eq, tail-eq-of-cons-eq}
 use mathlib.Core.Bool.{Bool, true, false}
@@ -82,7 +82,7 @@ module _ (F : Framing) {A K : Type 0} (D : Decoding A) (C : Counting K) where
   abbrev pub pieces : List ℕ → List Piece
   pieces t = divided F t .pieces
 
-  -- A call that is right behind what is pending is right behind all that its stretch has taken.
+  -- A call that is right after what is pending is right after all that its stretch has taken.
   right-at : (u v : List ℕ) (d : Did A) → RightBehind F D [] u (u ++ (taken d ++ v)) d → CallRight P pieces u v d
   unfolding divided
   right-at u v (fed b a) x =

@@ -21,7 +21,7 @@ use Rattle.engine.proofs.Rights.{Rights}
 use Rattle.engine.proofs.Accounts.{same-over}
 
 module _ (F : Framing) where
-  -- What ends with the last byte of t, behind u, does not depend on what follows.
+  -- What ends with the last byte of t, after u, does not depend on what follows.
   same-byte : (s : List ℕ) (c : ℕ) (v w : List ℕ) {ps qs : List Piece} → Divides F (s ++ (c ∷ v)) ps
       → Divides F (s ++ (c ∷ w)) qs → (f : List ℕ) → EndsAt ps (length s + 1) f → EndsAt qs (length s + 1) f
   same-byte s c v w d e f x = event F s c w e f .1 (event F s c v d f .0 x)
@@ -110,8 +110,8 @@ module _ (F : Framing) {S S′ A K : Type 0} (D : Decoding A) (C : Counting K)
 
   -- The theorem: from the claim alone, with the same string pending, equal counters to start with, and the same most.
   pub same : (p : List ℕ) (s : S) (s′ : S′) (calls : List Call) → Fulfilled P E p s calls → Fulfilled P E′ p s′ calls
-      → E .most ≡ E′ .most → ((k : K) → E .counter k s ≡ E′ .counter k s′) → Same E E′ s s′ calls
-  same p s s′ calls x y most start =
+      → E .max ≡ E′ .max → ((k : K) → E .counter k s ≡ E′ .counter k s′) → Same E E′ s s′ calls
+  same p s s′ calls x y max start =
       let h = same-turns (x .divide) (y .divide) calls p s s′ (x .right) (y .right) in
       let c = same-cut (x .divide) (y .divide) p h in
       record {

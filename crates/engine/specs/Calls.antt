@@ -10,7 +10,7 @@
 --   soFar         the last of them
 --   upToReset     what calls take before the first reset among them
 use mathlib.Core.List.{List, [], _∷_, _++_, map}
-use Prim.Native.Nat.{ℕ, _+_}
+use Prim.Native.Nat.{ℕ}
 use lib.ListN.{take}
 use Rattle.engine.specs.Bytes.{Byte, Bytes}
 
@@ -53,14 +53,14 @@ module _ {A : Type 0} where
   takenBy (d ∷ ds) = taken d ++ takenBy ds
 
   -- The strings of the stretches: p, which was pending before the first call, and what the calls took up to a reset;
-  -- and so on from nothing behind each reset.
+  -- and so on from nothing after each reset.
   abbrev pub stretches : List ℕ → List (Did A) → List (List ℕ)
   stretches p [] = p ∷ []
   stretches p (fed b a ∷ ds) = stretches (p ++ (b ∷ [])) ds
   stretches p (sliced bs k a ∷ ds) = stretches (p ++ take k bs) ds
   stretches p (cleared ∷ ds) = p ∷ stretches [] ds
 
-  -- The last of them: the stretch so far, behind the calls.
+  -- The last of them: the stretch so far, after the calls.
   abbrev pub soFar : List ℕ → List (Did A) → List ℕ
   soFar p [] = p
   soFar p (fed b a ∷ ds) = soFar (p ++ (b ∷ [])) ds

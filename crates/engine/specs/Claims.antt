@@ -18,7 +18,7 @@ HistoryAppend = (M : Runs.Machine (List ℕ) (List ℕ) (List ℕ)) (s : List �
 unfoldable pub StretchesJoined : Type 0
 StretchesJoined = (p : List ℕ) (ds : List (Did (List ℕ))) → joinOver (λ t. t) (stretches p ds) ≡ p ++ takenBy ds
 
--- What stands before a call in its stretch, what it took, and what stands behind it, make up one of the stretches.
+-- What stands before a call in its stretch, what it took, and what stands after it, make up one of the stretches.
 unfoldable pub StretchOfCall : Type 0
 StretchOfCall = (p : List ℕ) (before : List (Did (List ℕ))) (d : Did (List ℕ)) (behind : List (Did (List ℕ)))
     → Took d → List·Memᴰ (soFar p before ++ (taken d ++ upToReset behind)) (stretches p (before ++ (d ∷ behind)))

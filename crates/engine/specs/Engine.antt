@@ -21,7 +21,7 @@ pub record Engine (S A K : Type 0) : Type 0 where
   pub slice : S → List ℕ → Sliced S A
   pub reset : S → S
   pub counter : K → S → ℕ
-  pub most : ℕ
+  pub max : ℕ
   pub unfinished : S → ℕ
   pub pending : S → List ℕ
 

@@ -5,7 +5,7 @@
 --   LastEnds      the last byte that a call took ends a whole frame
 --   Answered      an answer is right for the bytes that its call took
 --   Told          the count that a slice call told is right
---   CallRight     a call is right, between the bytes that its stretch took before and behind it
+--   CallRight     a call is right, between the bytes that its stretch took before and after it
 --   Fulfilled     the claim
 --   Same          two parsers did the same, and left the same counters, unfinished length and pending string
 use mathlib.Core.Path.{_≡_}
@@ -68,7 +68,7 @@ abbrev pub sumOver : (List ℕ → ℕ) → List (List ℕ) → ℕ
 sumOver f [] = 0
 sumOver f (t ∷ ts) = f t + sumOver f ts
 
--- A call took the bytes t behind the bytes u of a stretch with the pieces ps.
+-- A call took the bytes t after the bytes u of a stretch with the pieces ps.
 abbrev pub LastEnds : List Piece → (u t f : List ℕ) → Type 0
 LastEnds ps u t f = (t ≢ []) × EndsAt ps (length u + length t) f
 
@@ -80,7 +80,7 @@ pub record Answered {A K : Type 0} (P : Protocol A K) (ps : List Piece) (u t : L
   -- else its answer was "no frame"
   pub else : P .delivers a ≡ false → a ≡ P .none
 
--- The slice has m bytes, behind n bytes of a stretch that with all of the slice has the pieces ps. The count k goes to
+-- The slice has m bytes, after n bytes of a stretch that with all of the slice has the pieces ps. The count k goes to
 -- the end of the first frame that ends at a byte of the slice, or to the slice's end where none does.
 pub data Told (ps : List Piece) (n m k : ℕ) : Type 0 where
   to-frame : (f : List ℕ) → 0 < k → k ≤ m → EndsAt ps (n + k) f
@@ -95,7 +95,7 @@ CallRight P pieces u v (sliced bs k a) = Answered P (pieces (u ++ (take k bs ++ 
 CallRight P pieces u v cleared = Unit {0}
 
 -- The calls are made one after the other, the first on the state s, in which the string p is pending: [] in a fresh
--- state, and behind a reset.
+-- state, and after a reset.
 pub record Fulfilled {S A K : Type 0} (P : Protocol A K) (E : Engine S A K) (p : List ℕ) (s : S) (calls : List Call)
     : Type 0 where
   -- the bytes of each stretch divide in exactly one way
@@ -111,7 +111,7 @@ pub record Fulfilled {S A K : Type 0} (P : Protocol A K) (E : Engine S A K) (p :
   -- each counter holds what it held at the start and its total over all the stretches, or its most if that is less
   pub counted : (k : K) → E .counter k (final E s calls)
       ≡ min (E .counter k s + sumOver (λ t. sum (P .adds k) (divide t .pieces)) (stretches p (history E s calls)))
-      (E .most)
+      (E .max)
   -- what is pending now is the unfinished end of the last stretch, and unfinished is its length
   pub pending : E .pending (final E s calls) ≡ cut (divide (soFar p (history E s calls)) .pieces)
   pub unfinished : E .unfinished (final E s calls) ≡ length (cut (divide (soFar p (history E s calls)) .pieces))

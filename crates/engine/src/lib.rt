@@ -5,7 +5,7 @@ ghost use Rattle.engine.specs.Claims.{HistoryAppend, StretchesJoined, St
 
 // `append`: calls that follow others go on from what those left. `joined`, `stretch`: no byte is lost between the
 // stretches, and each call stands in one of them.
-pub fn call_claims()
+fn call_claims()
     ensures append { λ _. ⌜ HistoryAppend ⌝ }
     ensures joined { λ _. ⌜ StretchesJoined ⌝ }
     ensures stretch { λ _. ⌜ StretchOfCall ⌝ }

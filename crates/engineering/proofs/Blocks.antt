@@ -7,18 +7,18 @@ use native.Mathlib.Omega.{arith}
 use lib.ListN.{length, getD, take, drop}
 use borrow.Rule.Slice.PartAt.{part-to-end}
 use borrow.Author.Tests.{lt-ltb, le-ltb}
-use Rattle.byte_string.specs.Prefix.{padded}
+use Rattle.wire.specs.Prefix.{padded}
 use Rattle.refusal.specs.Check.{orFailed}
 use Rattle.refusal.specs.declared.Check.{Check}
 use Rattle.refusal.specs.declared.Check.the-variants.{R8}
 use Rattle.refusal.specs.declared.MaybeCheck.the-variants as Maybe
-use Rattle.number.specs.declared.MaybeU8.the-variants.{Some, None}
-use Rattle.gates.specs.Gates.{fits, gatesAt}
-use Rattle.gates.specs.declared.Gates.{Gates}
-use Rattle.gates.specs.declared.MaybeGates.the-variants as MaybeGates
-use Rattle.gates.proofs.Counts.{gates-some, gates-none}
+use Rattle.wire.specs.declared.number.MaybeU8.the-variants.{Some, None}
+use Rattle.engineering.specs.Gates.{fits, gatesAt}
+use Rattle.engineering.specs.declared.gates.Gates.{Gates}
+use Rattle.engineering.specs.declared.gates.MaybeGates.the-variants as MaybeGates
+use Rattle.engineering.proofs.Counts.{gates-some, gates-none}
 use Rattle.engineering.specs.Block.{extraCount, engineeringOf}
-use Rattle.engineering.specs.Block.{checkedBlock, noBlock, extraSlice, extraAt}
+use Rattle.engineering.specs.Block.{checkedBlock, noBlock, extraBytes, extraAt}
 use Rattle.engineering.specs.declared.Engineering.{Engineering}
 use Rattle.engineering.specs.declared.CheckedEngineering.{CheckedEngineering}
 
@@ -91,10 +91,10 @@ module _ (b : List ℕ) where
 
 -- A reserved byte that was kept, and one that was not.
 module _ (e : Engineering) (i : ℕ) where
-  pub extra-there : i < extraSlice e .count → extraAt e i ≡ Some (getD (e .extra) i 0)
+  pub extra-there : i < extraBytes e .count → extraAt e i ≡ Some (getD (e .extra) i 0)
   unfolding extraAt
-  extra-there h = rw (lt-ltb i (extraSlice e .count) h)
+  extra-there h = rw (lt-ltb i (extraBytes e .count) h)
 
-  pub extra-missing : extraSlice e .count ≤ i → extraAt e i ≡ None
+  pub extra-missing : extraBytes e .count ≤ i → extraAt e i ≡ None
   unfolding extraAt
-  extra-missing h = rw (le-ltb i (extraSlice e .count) h)
+  extra-missing h = rw (le-ltb i (extraBytes e .count) h)

@@ -1,6 +1,6 @@
 -- The engineering block of a report: `max_moving_gate`, `max_stationary_gate` (each 0 to 8), that many plus one
 -- energies of each, then reserved bytes.
---   reserved b             the bytes behind the energies
+--   reserved b             the bytes after the energies
 --   extraMost              the most that `extra_len` counts
 --   extraCount s           how many reserved bytes s are, as far as it counts
 --   engineeringOf b        what a block that fits is read as
@@ -8,7 +8,7 @@
 --   engineeringIf flag b   what the block b is read as; every field 0 with the flag off
 --   checkedBlock b         the answer to the block b: what it is read as; or that R8 fails, every field 0
 --   noBlock                the answer to a block that does not fit
---   extraSlice e           the reserved bytes that were kept, with their valid count, at most 8
+--   extraBytes e           the reserved bytes that were kept, with their valid count, at most 8
 --   extraAt e i            reserved byte i, or none
 use mathlib.Core.List.{List}
 use mathlib.Core.Bool.{Bool, true, false}
@@ -18,13 +18,13 @@ use lib.ListN.{length, getD, take, drop, replicate}
 use Rattle.refusal.specs.Check.{orFailed}
 use Rattle.refusal.specs.declared.Check.the-variants.{R8}
 use Rattle.refusal.specs.declared.MaybeCheck.the-variants as Maybe
-use Rattle.gates.specs.Gates.{movingGates, stationaryGates, fits}
-use Rattle.byte_string.specs.Prefix.{padded}
-use Rattle.number.specs.Number.{answered, ifThere}
-use Rattle.number.specs.declared.MaybeU8.{MaybeU8}
-use Rattle.number.specs.declared.MaybeU8.the-variants.{Some, None}
+use Rattle.engineering.specs.Gates.{movingGates, stationaryGates, fits}
+use Rattle.wire.specs.Prefix.{padded}
+use Rattle.wire.specs.Number.{answered, ifThere}
+use Rattle.wire.specs.declared.number.MaybeU8.{MaybeU8}
+use Rattle.wire.specs.declared.number.MaybeU8.the-variants.{Some, None}
 use Rattle.engineering.specs.declared.Engineering.{Engineering}
-use Rattle.engineering.specs.declared.ExtraSlice.{ExtraSlice}
+use Rattle.engineering.specs.declared.ExtraBytes.{ExtraBytes}
 use Rattle.engineering.specs.declared.CheckedEngineering.{CheckedEngineering}
 
 abbrev pub reserved : List ℕ → List ℕ
@@ -69,9 +69,9 @@ checkedBlock b = record { failed = orFailed (fits b) R8 Maybe.None; engineering 
 abbrev pub noBlock : CheckedEngineering
 noBlock = record { failed = Maybe.Some R8; engineering = noEngineering }
 
-abbrev pub extraSlice : Engineering → ExtraSlice
-extraSlice e = record { bytes = e .extra; count = min (e .«extra_len») 8 }
+abbrev pub extraBytes : Engineering → ExtraBytes
+extraBytes e = record { bytes = e .extra; count = min (e .«extra_len») 8 }
 
 -- "`light` and `out_pin` are reserved bytes 0 and 1, or none"
 unfoldable pub extraAt : Engineering → ℕ → MaybeU8
-extraAt e i = answered Some None (ifThere (ltb i (extraSlice e .count)) (getD (e .extra) i 0))
+extraAt e i = answered Some None (ifThere (ltb i (extraBytes e .count)) (getD (e .extra) i 0))

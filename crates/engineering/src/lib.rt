@@ -1,27 +1,29 @@
 // The engineering block of a report: energies by gate and reserved bytes, reading them, and the accessors.
 //
 // `Option<Engineering>` of the Rust is a flag beside the block, whose fields are all 0 where the flag is off.
-use byte_string::copy_prefix;
+mod gates;
+
 use gates::Gates;
 use gates::MaybeGates;
-use number::MaybeU8;
-use number::least;
 use refusal::Check;
 use refusal::MaybeCheck;
 use wire::GATES;
-use wire::GateSlice;
+use wire::GateValues;
 use wire::MAX_EXTRA;
+use wire::MaybeU8;
+use wire::copy_prefix;
 use wire::gate_array;
+use wire::least;
 ghost use mathlib.Core.Path.{_≡_};
-ghost use Rattle.byte_string.specs.Prefix.{padded};
-ghost use Rattle.wire.specs.Gate.{gateSlice};
-ghost use Rattle.engineering.specs.Block.{extraCount, checkedBlock, noBlock, noEngineering, extraSlice, extraAt};
+ghost use Rattle.wire.specs.Prefix.{padded};
+ghost use Rattle.wire.specs.Gate.{gateValues};
+ghost use Rattle.engineering.specs.Block.{extraCount, checkedBlock, noBlock, noEngineering, extraBytes, extraAt};
 
 // The most that `extra_len` counts.
 const EXTRA_LEN_MAX: usize = 255;
 
 // Reserved bytes, of which the first `count` are valid.
-pub struct ExtraSlice {
+pub struct ExtraBytes {
     pub bytes: [u8; MAX_EXTRA],
     pub count: usize,
 }
@@ -48,27 +50,27 @@ pub struct CheckedEngineering {
 
 impl Engineering {
     // Valid moving energies, gate 0 first.
-    pub fn moving(self) -> GateSlice
-        ensures given { λ r. ⌜ r ≡ gateSlice (self .«moving_energy») (self .«moving_gates») ⌝ }
+    pub fn moving(self) -> GateValues
+        ensures given { λ r. ⌜ r ≡ gateValues (self .«moving_energy») (self .«moving_gates») ⌝ }
     {
         let energies = self.moving_energy;
-        GateSlice::new(energies, self.moving_gates as usize)
+        GateValues::new(energies, self.moving_gates as usize)
     }
 
     // Valid stationary energies, gate 0 first.
-    pub fn stationary(self) -> GateSlice
-        ensures given { λ r. ⌜ r ≡ gateSlice (self .«stationary_energy») (self .«stationary_gates») ⌝ }
+    pub fn stationary(self) -> GateValues
+        ensures given { λ r. ⌜ r ≡ gateValues (self .«stationary_energy») (self .«stationary_gates») ⌝ }
     {
         let energies = self.stationary_energy;
-        GateSlice::new(energies, self.stationary_gates as usize)
+        GateValues::new(energies, self.stationary_gates as usize)
     }
 
     // The reserved bytes that were kept.
-    pub fn extra(self) -> ExtraSlice
-        ensures given { λ r. ⌜ r ≡ extraSlice self ⌝ }
+    pub fn extra(self) -> ExtraBytes
+        ensures given { λ r. ⌜ r ≡ extraBytes self ⌝ }
     {
         let bytes = self.extra;
-        ExtraSlice {
+        ExtraBytes {
             bytes,
             count: least(self.extra_len as usize, MAX_EXTRA),
         }
@@ -101,7 +103,7 @@ impl Engineering {
         }
     }
 
-    // Reads the bytes behind the basic ones: two gate counts, the energies of each, then reserved bytes (check R8).
+    // Reads the bytes after the basic ones: two gate counts, the energies of each, then reserved bytes (check R8).
     pub fn parse(block: &[u8]) -> CheckedEngineering
         ensures checked { λ r. ⌜ r ≡ checkedBlock (now (block .entry)) ⌝ }
     {

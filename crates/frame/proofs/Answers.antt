@@ -11,10 +11,10 @@ use Rattle.refusal.specs.declared.MaybeCheck.{MaybeCheck}
 use Rattle.refusal.specs.declared.MaybeCheck.the-variants as Maybe
 use Rattle.wire.specs.Family.{framed}
 use Rattle.wire.specs.declared.Kind.{Kind}
-use Rattle.envelope.specs.Envelope.{family, dataOf, frameChecks, envelope}
-use Rattle.envelope.specs.declared.Envelope.the-variants.{Failed, Data}
-use Rattle.envelope.proofs.Opened.{failed-first, opened-data}
-use Rattle.envelope.proofs.Framed.{framed-dataOf, opened-framed}
+use Rattle.frame.specs.Envelope.{family, dataOf, frameChecks, envelope}
+use Rattle.frame.specs.declared.envelope.Envelope.the-variants.{Failed, Data}
+use Rattle.frame.proofs.Opened.{failed-first, opened-data}
+use Rattle.frame.proofs.Framed.{framed-dataOf, opened-framed}
 use Rattle.frame.specs.Frame.{bodyChecks, onData, thenBody, checksFor}
 use Rattle.frame.specs.Frame.{failingFrame, frameIf, decoded, frameAs, checkedFrame, parsedFrame}
 use Rattle.frame.specs.Frame.{noFrame, returnedFrame}

@@ -6,7 +6,7 @@ use Rattle.refusal.specs.Check.{firstFailed}
 use Rattle.refusal.specs.declared.Check.{Check}
 use Rattle.refusal.specs.declared.MaybeCheck.the-variants as Maybe
 use Rattle.wire.specs.declared.Kind.the-variants.{Report, Command}
-use Rattle.layout.specs.Check.{reportChecks}
+use Rattle.report.specs.LayoutCheck.{reportChecks}
 use Rattle.report.specs.Check.{checkedAs, checkedReport}
 use Rattle.report.specs.Report.{reportOf, noReport}
 use Rattle.report.proofs.Answers.{checked-failed}

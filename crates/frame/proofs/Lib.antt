@@ -3,3 +3,7 @@
 pub mod Bodies
 -- The reader's answer by its checks.
 pub mod Answers
+-- The answer by the checks, one after another, and what it means.
+pub mod Opened
+-- What is framed passes the checks, and its data are those that were framed.
+pub mod Framed

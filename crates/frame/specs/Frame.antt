@@ -9,7 +9,7 @@
 --   returnedFrame r   the number and the values that such an answer r returns
 use mathlib.Core.List.{List, [], _++_, map}
 use Prim.Native.Nat.{ℕ}
-use Rattle.envelope.specs.Envelope.{family, dataOf, frameChecks}
+use Rattle.frame.specs.Envelope.{family, dataOf, frameChecks}
 use Rattle.refusal.specs.Refusal.{Returned, beside}
 use Rattle.refusal.specs.Check.{Checks, firstFailed, outcomeOf}
 use Rattle.wire.specs.declared.Kind.{Kind}
@@ -19,7 +19,7 @@ use Rattle.wire.specs.declared.MaybeKind.the-variants as Found
 use Rattle.refusal.specs.declared.Check.{Check}
 use Rattle.refusal.specs.declared.MaybeCheck.{MaybeCheck}
 use Rattle.refusal.specs.declared.MaybeCheck.the-variants as Maybe
-use Rattle.layout.specs.Check.{reportChecks}
+use Rattle.report.specs.LayoutCheck.{reportChecks}
 use Rattle.report.specs.Report.{reportOf, noReport}
 use Rattle.ack.specs.Ack.{ackChecks, ackOf}
 pub use Rattle.ack.specs.Ack.{noAck}

@@ -3,16 +3,18 @@
 //
 // The Rust's `Frame` borrows an acknowledgement's payload. Here a frame is a kind beside a report and an
 // acknowledgement, of which the unused one is all 0, and the payload is a span of the bytes that were read.
+mod envelope;
+
 use ack::Ack;
 use ack::CheckedAck;
-use envelope::DATA_START;
-use envelope::Envelope;
+use ack::Span;
+pub use envelope::DATA_START;
+pub use envelope::Envelope;
 use refusal::Check;
 use refusal::MaybeCheck;
 use refusal::Outcome;
 use report::Report;
 use report::no_report;
-use span::Span;
 use wire::Kind;
 ghost use mathlib.Core.Path.{_≡_};
 ghost use Rattle.refusal.specs.Check.{Causes};
@@ -30,9 +32,9 @@ pub enum FrameKind {
 
 // A frame: a report or an acknowledgement, the other one all 0; with no frame both are.
 pub struct Frame {
-    pub kind: FrameKind,
-    pub report: Report,
     pub ack: Ack,
+    pub report: Report,
+    pub kind: FrameKind,
 }
 
 // A frame, or the first check that fails beside no frame.
@@ -155,7 +157,7 @@ impl Frame {
 
     // Decodes one whole frame and gives the first check that it fails: F1 to F4, then the body's. A payload's span
     // counts in `bytes`. The stream's limits on the length do not hold here: the data may have 0 to 65,535 bytes.
-    pub fn checked(bytes: &[u8]) -> CheckedFrame
+    fn checked(bytes: &[u8]) -> CheckedFrame
         ensures checked { λ r. ⌜ r ≡ checkedFrame (now (bytes .entry)) ⌝ }
     {
         match Envelope::open(bytes) {

@@ -30,7 +30,7 @@ finished-total C k (whole s ∷ ps) = omega (arith, finished-total C k ps)
 finished-total C k (unfinished s ∷ ps) = omega (arith, finished-total C k ps, C .cut-adds-nothing k s)
 
 module _ (F : Framing) where
-  -- Whatever a byte closes is finished, whatever stands behind it.
+  -- Whatever a byte closes is finished, whatever stands after it.
   module _ (qs : List Piece) where
     does-finished : {p : List ℕ} {c : ℕ} {r : Step} → Does F p c r
         → finished (r .closed ++ qs) ≡ r .closed ++ finished qs

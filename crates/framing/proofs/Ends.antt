@@ -1,4 +1,4 @@
--- Where frames end in a list of pieces: piece by piece, behind other pieces, and past them.
+-- Where frames end in a list of pieces: piece by piece, after other pieces, and past them.
 use mathlib.Core.Path.{_≡_, refl, sym, _∙_, ap, subst}
 use mathlib.Core.List.{List, [], _∷_, _++_, append-assoc}
 use Prim.Native.Nat.{ℕ, _+_, _<_}
@@ -48,7 +48,7 @@ ends-among (p ∷ before) behind f = ends-to (sym (ap length (append-assoc (byte
 pub ends-in : {ps : List Piece} {n : ℕ} {f : List ℕ} → EndsAt ps n f → Ends ps n f
 ends-in {ps} {n} {f} r = rw (r .split) (ends-to (r .place) (ends-among (r .before) (r .behind) f))
 
--- Behind other pieces a frame ends that much later.
+-- After other pieces a frame ends that much later.
 pub ends-behind : (qs : List Piece) {ps : List Piece} {n : ℕ} {f : List ℕ} → Ends ps n f
     → Ends (qs ++ ps) (length (spelled qs) + n) f
 ends-behind [] x = ends-to (omega arith) x

@@ -16,7 +16,7 @@ pub mod Scanner
 pub mod View
 -- The scanner's pieces are the division, and the only one.
 pub mod Scanned
--- A division with more bytes behind it.
+-- A division with more bytes after it.
 pub mod Append
 -- Where the scanner ends a frame, a whole piece of every division ends.
 pub mod Events

@@ -12,7 +12,7 @@ use Rattle.framing.proofs.View.{nothing-waits, Does, does-end, does-ope
 use Rattle.framing.proofs.View.{step-whole, step-on, step-over}
 
 module _ (F : Framing) where
-  -- The pieces of s behind the open string p; and those of s behind what a byte left.
+  -- The pieces of s after the open string p; and those of s after what a byte left.
   abbrev pub from : List ℕ → List ℕ → List Piece
   from p [] = leftover p
   from p (c ∷ s) = step F p c .closed ++ from (step F p c .pending) s

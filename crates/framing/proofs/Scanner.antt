@@ -1,9 +1,9 @@
 -- What one more byte does to a division: it is the division's own rule, read from left to right. What stands before the
 -- byte matters only through the pending string, the unfinished end of what came before.
 --   Step         what a byte did: the pieces that it closed, the frame that it ended, what is pending now
---   step F p c   what the byte c does behind the pending string p
---   closed F p s the pieces that the string s closes behind p
---   rest F p s   what is pending after s behind p
+--   step F p c   what the byte c does after the pending string p
+--   closed F p s the pieces that the string s closes after p
+--   rest F p s   what is pending after s after p
 --   leftover p   a pending string at the end of a stream, as its unfinished end
 --   pieces F s   the pieces of the string s
 use mathlib.Core.List.{List, [], _∷_, _++_}
@@ -46,7 +46,7 @@ module _ (F : Framing) where
   over [] c = strays c
   over (b ∷ p) c = breaks (b ∷ p) (start c)
 
-  -- A byte behind a pending string: it ends a frame, or goes on with it, or starts over.
+  -- A byte after a pending string: it ends a frame, or goes on with it, or starts over.
   abbrev pub step : List ℕ → ℕ → Step
   step p c = grown (F .whole? (p ++ (c ∷ []))) (F .open? (p ++ (c ∷ []))) (p ++ (c ∷ [])) (over p c)
 

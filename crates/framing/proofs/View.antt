@@ -12,7 +12,7 @@ module _ (F : Framing) where
   pub nothing-waits : Waits F []
   nothing-waits = (F .laws .empty-open, F .laws .empty-not-whole)
 
-  -- The byte c behind the open string p did r, and why.
+  -- The byte c after the open string p did r, and why.
   pub data Does : List ℕ → ℕ → Step → Type 0 where
     does-end : {p : List ℕ} {c : ℕ} → F .Whole (p ++ (c ∷ [])) → Does p c (ends (p ++ (c ∷ [])))
     does-open : {p : List ℕ} {c : ℕ} → Waits F (p ++ (c ∷ [])) → Does p c (opens (p ++ (c ∷ [])))

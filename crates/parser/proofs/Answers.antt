@@ -19,9 +19,9 @@ use denote.Laws.{Is, Tells, Makes}
 use denote.Struct.Laws as LL
 use Rattle.parser.specs.declared.Parser.{Parser}
 use Rattle.scan.specs.declared.Scan.{Scan}
-use Rattle.stats.specs.declared.Stats.{Stats}
-use Rattle.feeding.specs.declared.Moved.{Moved}
-use Rattle.feeding.specs.declared.MovedSlice.{MovedSlice}
+use Rattle.scan.specs.declared.stats.Stats.{Stats}
+use Rattle.feed.specs.declared.feeding.Moved.{Moved}
+use Rattle.feed.specs.declared.feeding.MovedSlice.{MovedSlice}
 use Rattle.parser.specs.declared.Fed.{Fed}
 use Rattle.parser.specs.declared.FedSlice.{FedSlice}
 use Rattle.frame.proofs.Frame as X
@@ -29,14 +29,14 @@ use Rattle.frame.proofs.Frame.Laws as X′
 use Rattle.parser.proofs.Parser.Laws as T′
 use Rattle.scan.proofs.Scan as C
 use Rattle.scan.proofs.Scan.Laws as C′
-use Rattle.stats.proofs.Stats as N
-use Rattle.stats.proofs.Stats.Laws as N′
-use Rattle.feeding.proofs.Taken as Y
-use Rattle.feeding.proofs.Taken.Laws as Y′
-use Rattle.feeding.proofs.Moved as F
-use Rattle.feeding.proofs.Moved.Laws as F′
-use Rattle.feeding.proofs.MovedSlice as G
-use Rattle.feeding.proofs.MovedSlice.Laws as G′
+use Rattle.scan.proofs.stats.Stats as N
+use Rattle.scan.proofs.stats.Stats.Laws as N′
+use Rattle.feed.proofs.feeding.Taken as Y
+use Rattle.feed.proofs.feeding.Taken.Laws as Y′
+use Rattle.feed.proofs.feeding.Moved as F
+use Rattle.feed.proofs.feeding.Moved.Laws as F′
+use Rattle.feed.proofs.feeding.MovedSlice as G
+use Rattle.feed.proofs.feeding.MovedSlice.Laws as G′
 use Rattle.parser.proofs.Fed as D
 use Rattle.parser.proofs.Fed.Laws as D′
 use Rattle.parser.proofs.FedSlice as E

@@ -5,6 +5,7 @@
 --   scan-ended, scan-clauses      `fn() -> Scan`, the covered maker of a scan
 --   reset-ended, reset-clauses    `fn(&mut self)`, a reset of a parser that is lent
 --   clear-ended, clear-clauses    `fn(parser: Parser) -> Parser`, a reset by value
+--   ResetSays                     what both resets say: what is left, demand 3 of it, and what out of range is fed as
 -- Clauses of a feed speak of the parser and of what is said of e (Extra.antt). Those of the last two say any assertion
 -- `Says` of the parser given and of the parser left.
 -- Assumes nothing.
@@ -22,11 +23,13 @@ use denote.Ref.{now}
 use denote.Signature.{plain, mutRefTo}
 use denote.Triple.Clauses.{Ended, Clauses}
 use denote.Exit.{yes}
+use Rattle.parser.specs.Feed.{resetOf}
+use Rattle.parser.specs.Claims.{FromHere, Determined, ResetFirst}
 use Rattle.parser.specs.declared.Parser.{Parser}
 use Rattle.scan.specs.declared.Scan.{Scan}
-use Rattle.stats.specs.declared.Stats.{Stats}
+use Rattle.scan.specs.declared.stats.Stats.{Stats}
 use Rattle.scan.proofs.Scan as C
-use Rattle.stats.proofs.Stats as N
+use Rattle.scan.proofs.stats.Stats as N
 use Rattle.parser.proofs.Memory.{P}
 use Rattle.parser.proofs.Extra.{Extra}
 use Rattle.parser.proofs.Answers.{Answer, Moves, Hands}
@@ -39,10 +42,15 @@ holds {𝓤 = 𝓤} t {P} {Q} x = step (λ s. record {
       (via 𝓤 (sep 𝓤 (emp 𝓤) P) (emp∗ 𝓤 P) (via 𝓤 (sep 𝓤 Q P) (monoL 𝓤 P x) (comm∗ 𝓤 Q P)));
 })
 
--- two facts, shown of nothing
+-- a fact and Q, shown of nothing
+pub also-holds : {M : Type 1} (𝓤 : URA M) {φ : Type 0} {Q : SProp 𝓤} → φ → ent 𝓤 (emp 𝓤) Q
+    → ent 𝓤 (emp 𝓤) (sep 𝓤 (fact 𝓤 φ) Q)
+also-holds 𝓤 {φ} x q =
+    via 𝓤 (sep 𝓤 (emp 𝓤) (emp 𝓤)) (emp∗ 𝓤 (emp 𝓤)) (mono∗ 𝓤 (factI 𝓤 φ (emp 𝓤) x) q)
+
+-- two facts
 pub two-hold : {M : Type 1} (𝓤 : URA M) {φ χ : Type 0} → φ → χ → ent 𝓤 (emp 𝓤) (sep 𝓤 (fact 𝓤 φ) (fact 𝓤 χ))
-two-hold 𝓤 {φ} {χ} x y = via 𝓤 (sep 𝓤 (emp 𝓤) (emp 𝓤)) (emp∗ 𝓤 (emp 𝓤))
-    (mono∗ 𝓤 (factI 𝓤 φ (emp 𝓤) x) (factI 𝓤 χ (emp 𝓤) y))
+two-hold 𝓤 {φ} {χ} x y = also-holds 𝓤 x (factI 𝓤 χ (emp 𝓤) y)
 
 module _ {m : ℕ} {Z : Type 0} (X : Extra m Z) (B : Answer) where
   abbrev pub step-ended : Moves B → Ended
@@ -154,3 +162,7 @@ module _ {M : Type 1} (𝓤 : URA M) where
 
   abbrev pub clear-clauses : (Parser → Parser → SProp 𝓤) → Clauses 𝓤 clear-ended
   clear-clauses Says κs a = record { ghost = Unit {0}; requires = λ _. emp 𝓤; ensures = λ _ r e. Says (a .0) r }
+
+  abbrev pub ResetSays : Parser → Parser → SProp 𝓤
+  ResetSays h p = sep 𝓤 (fact 𝓤 (p ≡ resetOf h)) (sep 𝓤 (fact 𝓤 (FromHere p))
+      (sep 𝓤 (fact 𝓤 (Determined [] p)) (fact 𝓤 (ResetFirst h p))))

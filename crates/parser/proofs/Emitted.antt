@@ -7,9 +7,9 @@ use Prim.Native.Nat.{ℕ, _≤_, _<_}
 use native.Mathlib.Omega.{arith}
 use lib.ListN.{length, take, drop, take-append-drop}
 use lib.Seq.{length-take-le}
-use Rattle.number.specs.Number.{leBytes}
-use Rattle.number.specs.Counter.{bumped}
-use Rattle.number.proofs.Counters.{bumped-nil}
+use Rattle.wire.specs.Number.{leBytes}
+use Rattle.wire.specs.Counter.{bumped}
+use Rattle.wire.proofs.Counters.{bumped-nil}
 use Rattle.wire.specs.Family.{header, tail, framed}
 use Rattle.wire.specs.declared.Kind.{Kind}
 use Rattle.frame.specs.Frame.{decoded}
@@ -21,14 +21,14 @@ use Rattle.engine.proofs.Lawful.{answerAt}
 use Rattle.stream.specs.Deliver.{holds, decodes, delivered, frames, resyncs, dropped, malformed}
 use Rattle.stream.proofs.Decoding.{decoding}
 use Rattle.stream.proofs.Delivered.{decodes-framed, delivered-framed, decoded-failed}
-use Rattle.stats.specs.Start.{counted}
-use Rattle.feeding.specs.Moved.{emitted}
+use Rattle.scan.specs.Start.{counted}
+use Rattle.feed.specs.Moved.{emitted}
 use Rattle.parser.specs.Feed.{put}
 use Rattle.parser.specs.Engine.{answerOf}
 use Rattle.scan.specs.declared.Scan.{Scan}
-use Rattle.stats.specs.declared.Stats.{Stats}
-use Rattle.stats.specs.declared.Ended.{Ended}
-use Rattle.stats.specs.declared.Ended.the-variants.{Frame, Nothing}
+use Rattle.scan.specs.declared.stats.Stats.{Stats}
+use Rattle.scan.specs.declared.stats.Ended.{Ended}
+use Rattle.scan.specs.declared.stats.Ended.the-variants.{Frame, Nothing}
 use Rattle.step.proofs.Follow.{Capped, endedAs, Fits}
 
 -- Whole frames that pass a test, among the pieces that a byte closed: the one that it ended, if any.
@@ -84,10 +84,10 @@ module _ (c : Scan) (st : Stats) (buf : List ℕ) where
   emitted-dropped (Frame k n) = counted-dropped (holds (decoded 4 k (take n buf) .failed)) st
   emitted-dropped Nothing = refl
 
-module _ (most : ℕ) (small : most < 65536) (buf : List ℕ) (room : most ≤ length buf)
+module _ (limit : ℕ) (small : limit < 65536) (buf : List ℕ) (room : limit ≤ length buf)
     (c : Scan) (st : Stats) (cap : Capped st) where
   -- The data of a whole frame, at the front of the buffer.
-  module _ (k : Kind) (n : ℕ) (fits : n ≤ most) where
+  module _ (k : Kind) (n : ℕ) (fits : n ≤ limit) where
     data-small : length (take n buf) < 65536
     data-small = omega (arith, length-take-le n buf (omega arith))
 
@@ -103,18 +103,18 @@ module _ (most : ℕ) (small : most < 65536) (buf : List ℕ) (room : most ≤ l
         (sym (delivered-framed (take n buf) (drop n buf) k data-small
         ∙ ap (λ s. answerOf (decoded 4 k (take n buf) .frame) (put s c st)) (take-append-drop n buf)))
 
-  pub emitted-answer : (e : Ended) → Fits most e
+  pub emitted-answer : (e : Ended) → Fits limit e
       → answerOf (emitted e c st buf .answer) (put buf c st) ≡ answerAt decoding (endedAs e buf)
   emitted-answer (Frame k n) fits = delivered-here k n fits
   emitted-answer Nothing fits = refl
 
-  pub emitted-frames : (e : Ended) → Fits most e
+  pub emitted-frames : (e : Ended) → Fits limit e
       → emitted e c st buf .stats .frames ≡ bumped (st .frames) (endedCount decodes (endedAs e buf))
   emitted-frames (Frame k n) fits =
       rw (decodes-here k n fits) (counted-frames (holds (decoded 4 k (take n buf) .failed)) st cap)
   emitted-frames Nothing fits = sym (bumped-nil (st .frames) (cap .frames))
 
-  pub emitted-malformed : (e : Ended) → Fits most e
+  pub emitted-malformed : (e : Ended) → Fits limit e
       → emitted e c st buf .stats .malformed
       ≡ bumped (st .malformed) (endedCount (λ f. not (decodes f)) (endedAs e buf))
   emitted-malformed (Frame k n) fits =

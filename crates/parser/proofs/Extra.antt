@@ -3,7 +3,7 @@
 --                 of it, of the type Z
 --   Carries X Y   an argument of X is handed on as one of Y, with what it owns and what is said of it
 --   Extra m Z     the parameter in a function of m lifetimes that has the parser by value (`alone`), and in one that
---                 has the parser or its buffer behind a reference, whose lifetime comes first (`beside`); `on` hands it
+--                 has the parser or its buffer after a reference, whose lifetime comes first (`beside`); `on` hands it
 --                 from the one to the other, `again` to another of the second kind
 --   byte, bytes   a `u8`, a `&[u8]`
 -- Assumes nothing.

@@ -39,11 +39,11 @@ use denote.Exit.{yes}
 use Rattle.parser.specs.Feed.{put}
 use Rattle.parser.specs.declared.Parser.{Parser}
 use Rattle.scan.specs.declared.Scan.{Scan}
-use Rattle.stats.specs.declared.Stats.{Stats}
+use Rattle.scan.specs.declared.stats.Stats.{Stats}
 use Rattle.scan.proofs.Scan as C
 use Rattle.scan.proofs.Scan.Laws as C′
-use Rattle.stats.proofs.Stats as N
-use Rattle.stats.proofs.Stats.Laws as N′
+use Rattle.scan.proofs.stats.Stats as N
+use Rattle.scan.proofs.stats.Stats.Laws as N′
 use Rattle.parser.proofs.Memory.{P, Buf, val, vals, scan-val, stats-val}
 use Rattle.parser.proofs.Memory.{is-scan, is-stats, self}
 use Rattle.parser.proofs.Field.{ref, Borrow}

@@ -48,7 +48,7 @@ use denote.Triple.Walked.{walk-meets}
 use denote.Exit.{yes}
 use Rattle.parser.specs.declared.Parser.{Parser}
 use Rattle.scan.specs.declared.Scan.{Scan}
-use Rattle.stats.specs.declared.Stats.{Stats}
+use Rattle.scan.specs.declared.stats.Stats.{Stats}
 use Rattle.parser.proofs.Parser as T
 use Rattle.parser.proofs.Parser.Laws as T′
 use Rattle.parser.proofs.Memory.{P, Cell, val, vals, scan-fits, stats-fits}

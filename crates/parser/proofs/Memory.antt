@@ -6,7 +6,7 @@
 --   is-put                 and what is known of the fields, of the parser
 --   valid                  its buffer has room and no counter is past its most, so that demand 3 can be claimed of it
 --   Cell                   its cell, for the steps that read and write its fields
---   self                   a place in it, behind `&mut self`
+--   self                   a place in it, after `&mut self`
 --   opened                 the borrow of a `&mut Parser` is opened, and what it holds is written out as a Cell
 -- Assumes nothing.
 use Prim.Native.Nat.{ℕ}
@@ -34,14 +34,14 @@ use denote.Struct.Laws as LL
 use Rattle.parser.specs.Feed.{put}
 use Rattle.parser.specs.declared.Parser.{Parser}
 use Rattle.scan.specs.declared.Scan.{Scan}
-use Rattle.stats.specs.declared.Stats.{Stats}
+use Rattle.scan.specs.declared.stats.Stats.{Stats}
 use Rattle.parser.proofs.Parser as T
 use Rattle.parser.proofs.Parser.Laws as T′
 use Rattle.scan.proofs.Scan as C
 use Rattle.scan.proofs.Scan.Laws as C′
-use Rattle.stats.proofs.Stats as N
-use Rattle.stats.proofs.Stats.Laws as N′
-use Rattle.limit.specs.Length.{linkMost}
+use Rattle.scan.proofs.stats.Stats as N
+use Rattle.scan.proofs.stats.Stats.Laws as N′
+use Rattle.stream.specs.Length.{linkLimit}
 use Rattle.parser.proofs.Feeding.{Valid}
 
 abbrev pub P : RattleType
@@ -89,7 +89,7 @@ pub is-put : (ys : List ℕ) (s : Scan) (t : Stats) → Is Buf (map (λ v. v) ys
     → Is C.the-row s (scan-val s ∷ []) → Is N.the-row t (stats-val t ∷ []) → Is P (put ys s t) (vals (put ys s t))
 is-put ys s t bs ss ts = LL.owes T.the-type T′.the-laws (put ys s t) (bs, (ss, (ts, tt)))
 
-pub valid : (h : Parser) → Is P h (vals h) → Valid linkMost h
+pub valid : (h : Parser) → Is P h (vals h) → Valid linkLimit h
 valid h is =
     let n = LL.owed N.the-type N′.the-laws (h .stats) _ (is-stats h is) in
     record {

@@ -12,16 +12,16 @@ use Rattle.stream.proofs.Decoding.{decoding}
 use Rattle.scan.specs.Scan.{inOrder}
 use Rattle.step.specs.Step.{stepOf, stored}
 use Rattle.step.specs.Slice.{Run, runAt, thenRun, runOf}
-use Rattle.feeding.specs.Moved.{emitted, bufOf, movedOf}
+use Rattle.feed.specs.Moved.{emitted, bufOf, movedOf}
 use Rattle.parser.specs.Feed.{put, feedOf}
 use Rattle.parser.specs.Engine.{answerOf, engine}
 use Rattle.scan.specs.declared.Scan.{Scan}
-use Rattle.stats.specs.declared.Stats.{Stats}
+use Rattle.scan.specs.declared.stats.Stats.{Stats}
 use Rattle.parser.specs.declared.Parser.{Parser}
 use Rattle.parser.specs.declared.Fed.{Fed}
-use Rattle.feeding.specs.declared.Moved.{Moved}
-use Rattle.stats.specs.declared.Ended.{Ended}
-use Rattle.stats.specs.declared.Ended.the-variants.{Frame, Nothing}
+use Rattle.feed.specs.declared.feeding.Moved.{Moved}
+use Rattle.scan.specs.declared.stats.Ended.{Ended}
+use Rattle.scan.specs.declared.stats.Ended.the-variants.{Frame, Nothing}
 use Rattle.step.proofs.Follow.{endedAs}
 use Rattle.scan.proofs.Orders.{settled-same}
 use Rattle.parser.proofs.Feeding.{Valid, one-follows, one-stepped}
@@ -42,15 +42,15 @@ fedAs m buf = record { parser = put buf (m .scan) (m .stats); answer = m .answer
 abbrev more : Sliced Parser Answer → Sliced Parser Answer
 more s = record { state = s .state; told = suc (s .told); answer = s .answer }
 
-module _ (most : ℕ) (small : most < 65536) where
+module _ (limit : ℕ) (small : limit < 65536) where
   -- Feeding a byte to a parser in order.
-  fed-at : (p : Parser) → inOrder most (p .scan) ≡ true → (b : ℕ) → let x = stepOf most (p .scan) (p .stats) b in
+  fed-at : (p : Parser) → inOrder limit (p .scan) ≡ true → (b : ℕ) → let x = stepOf limit (p .scan) (p .stats) b in
       let left = stored (p .scan) (p .buf) b in
-      feedOf most p b ≡ fedAs (emitted (x .ended) (x .scan) (x .stats) left) left
+      feedOf limit p b ≡ fedAs (emitted (x .ended) (x .scan) (x .stats) left) left
   unfolding feedOf movedOf bufOf
-  fed-at p o b = rw (settled-same most (p .scan) o)
+  fed-at p o b = rw (settled-same limit (p .scan) o)
 
-  -- By what the step ended, with what the bytes behind it do.
+  -- By what the step ended, with what the bytes after it do.
   stop-as : (e : Ended) (left : List ℕ) (c : Scan) (st : Stats) (others : Run) (rest : Sliced Parser Answer)
       → (e ≡ Nothing → sliceAs others ≡ rest)
       → sliceAs (thenRun e (record { scan = c; stats = st; ended = e }) left others)
@@ -58,17 +58,17 @@ module _ (most : ℕ) (small : most < 65536) where
   stop-as (Frame k n) left c st others rest h = refl
   stop-as Nothing left c st others rest h = ap more (h refl)
 
-  pub until : (bs : List ℕ) → Bytes bs → (p : Parser) → inOrder most (p .scan) ≡ true → Valid most p
-      → sliceAs (runOf most (p .scan) (p .stats) (p .buf) bs) ≡ feedUntil (link most) decoding (engine most) p bs
+  pub until : (bs : List ℕ) → Bytes bs → (p : Parser) → inOrder limit (p .scan) ≡ true → Valid limit p
+      → sliceAs (runOf limit (p .scan) (p .stats) (p .buf) bs) ≡ feedUntil (link limit) decoding (engine limit) p bs
   unfolding runOf
   until [] bytes p o v = refl
   until (b ∷ bs) bytes p o v =
-      let f = one-follows most small p o v b (bytes .0) in
-      let x = stepOf most (p .scan) (p .stats) b in
+      let f = one-follows limit small p o v b (bytes .0) in
+      let x = stepOf limit (p .scan) (p .stats) b in
       let left = stored (p .scan) (p .buf) b in
       let next = put left (x .scan) (x .stats) in
-      let others = until bs (bytes .1) next (f .order) (one-stepped most small p o v b (bytes .0)) in
+      let others = until bs (bytes .1) next (f .order) (one-stepped limit small p o v b (bytes .0)) in
       let fed = fedAs (emitted (x .ended) (x .scan) (x .stats) left) left .parser in
-      rw (settled-same most (p .scan) o, ← (f .ended), fed-at p o b)
-      (stop-as (x .ended) left (x .scan) (x .stats) (runOf most (x .scan) (x .stats) left bs)
-      (feedUntil (link most) decoding (engine most) fed bs) (λ e. rw e others))
+      rw (settled-same limit (p .scan) o, ← (f .ended), fed-at p o b)
+      (stop-as (x .ended) left (x .scan) (x .stats) (runOf limit (x .scan) (x .stats) left bs)
+      (feedUntil (link limit) decoding (engine limit) fed bs) (λ e. rw e others))

@@ -15,8 +15,8 @@ use mathlib.Core.Path.{_≡_}
 use mathlib.Core.List.{List, [], _∷_, _++_}
 use Prim.Native.Nat.{ℕ, _+_, _<_, min}
 use lib.ListN.{length}
-use Rattle.number.specs.Counter.{counterMost}
-use Rattle.limit.specs.Length.{linkMost}
+use Rattle.wire.specs.Counter.{counterMax}
+use Rattle.stream.specs.Length.{linkLimit}
 use Rattle.framing.specs.Piece.{Piece}
 use Rattle.framing.specs.Division.{Division}
 use Rattle.framing.specs.Tally.{sum, framed}
@@ -33,53 +33,54 @@ use Rattle.parser.specs.Engine.{counterIn, pendingBy, engine}
 use Rattle.parser.specs.declared.Parser.{Parser}
 
 abbrev pub did : Parser → List Call → List (Did Answer)
-did x calls = history (engine linkMost) x calls
+did x calls = history (engine linkLimit) x calls
 
 abbrev pub left : Parser → List Call → Parser
-left x calls = final (engine linkMost) x calls
+left x calls = final (engine linkLimit) x calls
 
 abbrev pub Demand3 : List ℕ → Parser → Type 0
-Demand3 p x = (calls : List Call) → Every ByteCall calls → Fulfilled (ld2410 linkMost) (engine linkMost) p x calls
+Demand3 p x = (calls : List Call) → Every ByteCall calls → Fulfilled (ld2410 linkLimit) (engine linkLimit) p x calls
 
 abbrev pub FromHere : Parser → Type 0
 FromHere x = Demand3 [] x
 
 abbrev pub Determined : List ℕ → Parser → Type 0
 Determined p x = (E : Engine Parser Answer Counter) (s : Parser) (calls : List Call) → Every ByteCall calls
-    → Fulfilled (ld2410 linkMost) E p s calls → E .most ≡ counterMost
-    → ((k : Counter) → E .counter k s ≡ counterIn k (x .stats)) → Same E (engine linkMost) s x calls
+    → Fulfilled (ld2410 linkLimit) E p s calls → E .max ≡ counterMax
+    → ((k : Counter) → E .counter k s ≡ counterIn k (x .stats)) → Same E (engine linkLimit) s x calls
 
 pub record Stands (x : Parser) (p : List ℕ) : Type 0 where
   -- out of range it "is handled as if reset came first": nothing is pending
-  pub out : OutOfRange linkMost (x .scan) → p ≡ []
+  pub out : OutOfRange linkLimit (x .scan) → p ≡ []
   -- in range it is not reset
-  pub inside : ¬ OutOfRange linkMost (x .scan) → p ≡ pendingOf (x .scan) (x .buf)
+  pub inside : ¬ OutOfRange linkLimit (x .scan) → p ≡ pendingOf (x .scan) (x .buf)
 
 pub record FromAny (x : Parser) : Type 0 where
-  pub stands : Stands x (pendingBy linkMost x)
-  pub fulfilled : Demand3 (pendingBy linkMost x) x
-  pub determined : Determined (pendingBy linkMost x) x
+  pub stands : Stands x (pendingBy linkLimit x)
+  pub fulfilled : Demand3 (pendingBy linkLimit x) x
+  pub determined : Determined (pendingBy linkLimit x) x
   -- the counter of frames counts the frames that were delivered
   pub frames : (calls : List Call) → Every ByteCall calls → left x calls .stats .frames
-      ≡ min (x .stats .frames + length (deliveries (ld2410 linkMost .delivers) (did x calls))) counterMost
+      ≡ min (x .stats .frames + length (deliveries (ld2410 linkLimit .delivers) (did x calls))) counterMax
   -- "an empty slice takes none", and delivers nothing
   pub empty : (calls : List Call) → Every ByteCall calls → (before behind : List (Did Answer)) (k : ℕ) (a : Answer)
       → did x calls ≡ before ++ (sliced [] k a ∷ behind) → (k ≡ 0) × (a ≡ nothing)
   -- a parser y that stands for the same as what calls left, and has its counters, goes on as that
   pub resumed : (calls more : List Call) → Every ByteCall calls → Every ByteCall more
-      → (y : Parser) → Demand3 (pendingBy linkMost y) y → pendingBy linkMost y ≡ pendingBy linkMost (left x calls)
+      → (y : Parser) → Demand3 (pendingBy linkLimit y) y → pendingBy linkLimit y ≡ pendingBy linkLimit (left x calls)
       → y .stats ≡ left x calls .stats → did x (calls ++ more) ≡ did x calls ++ did y more
 
 -- "from fresh, without a reset and with no counter full, bytes taken equal dropped plus unfinished plus the lengths of
 -- whole frames"
 abbrev pub Accounted : Parser → Type 0
 Accounted x = (calls : List Call) → Every ByteCall calls → Every Goes calls
-    → left x calls .stats .dropped < counterMost
-    → (ps : List Piece) → Division (Open linkMost) (Whole linkMost) (takenBy (did x calls)) ps
+    → left x calls .stats .dropped < counterMax
+    → (ps : List Piece) → Division (Open linkLimit) (Whole linkLimit) (takenBy (did x calls)) ps
     → length (takenBy (did x calls))
-    ≡ left x calls .stats .dropped + unfinishedOf linkMost (left x calls) + sum framed ps
+    ≡ left x calls .stats .dropped + unfinishedOf linkLimit (left x calls) + sum framed ps
 
 -- "A parser built by hand with fields out of range .. is handled as if reset came first."
 pub record ResetFirst (x y : Parser) : Type 0 where
-  pub of-byte : OutOfRange linkMost (x .scan) → (b : ℕ) → feedOf linkMost x b ≡ feedOf linkMost y b
-  pub of-slice : OutOfRange linkMost (x .scan) → (bs : List ℕ) → feedSliceOf linkMost x bs ≡ feedSliceOf linkMost y bs
+  pub of-byte : OutOfRange linkLimit (x .scan) → (b : ℕ) → feedOf linkLimit x b ≡ feedOf linkLimit y b
+  pub of-slice : OutOfRange linkLimit (x .scan) → (bs : List ℕ)
+      → feedSliceOf linkLimit x bs ≡ feedSliceOf linkLimit y bs

@@ -1,18 +1,18 @@
--- The parser as an engine of the theory of the stream, over the largest length `most`.
+-- The parser as an engine of the theory of the stream, over the largest length `limit`.
 --   answerOf x p     an answer, with the bytes that stand in the parser left where it says that its payload is
 --   counterIn k st   the counter k of the counters st
---   pendingBy most p the bytes that the parser stands for: none where a field is out of range
---   engine most      the calls, the counters, and the pending string
+--   pendingBy limit p the bytes that the parser stands for: none where a field is out of range
+--   engine limit      the calls, the counters, and the pending string
 use mathlib.Core.List.{List}
 use Prim.Native.Nat.{ℕ}
-use Rattle.number.specs.Counter.{counterMost}
+use Rattle.wire.specs.Counter.{counterMax}
 use Rattle.frame.specs.declared.Frame.{Frame}
 use Rattle.engine.specs.Engine.{Engine}
 use Rattle.stream.specs.Deliver.{Answer, payloadOf, Counter, frames, resyncs, dropped, malformed}
 use Rattle.scan.specs.Scan.{settled}
 use Rattle.scan.specs.Stands.{pendingOf}
 use Rattle.parser.specs.Feed.{feedOf, feedSliceOf, resetOf, unfinishedOf}
-use Rattle.stats.specs.declared.Stats.{Stats}
+use Rattle.scan.specs.declared.stats.Stats.{Stats}
 use Rattle.parser.specs.declared.Parser.{Parser}
 
 abbrev pub answerOf : Frame → Parser → Answer
@@ -25,19 +25,19 @@ counterIn dropped st = st .dropped
 counterIn malformed st = st .malformed
 
 abbrev pub pendingBy : ℕ → Parser → List ℕ
-pendingBy most p = pendingOf (settled most (p .scan)) (p .buf)
+pendingBy limit p = pendingOf (settled limit (p .scan)) (p .buf)
 
 abbrev pub engine : ℕ → Engine Parser Answer Counter
-engine most = record {
-  feed = λ p b. (feedOf most p b .parser, answerOf (feedOf most p b .answer) (feedOf most p b .parser));
+engine limit = record {
+  feed = λ p b. (feedOf limit p b .parser, answerOf (feedOf limit p b .answer) (feedOf limit p b .parser));
   slice = λ p bs. record {
-    state = feedSliceOf most p bs .parser;
-    told = feedSliceOf most p bs .answer .count;
-    answer = answerOf (feedSliceOf most p bs .answer .frame) (feedSliceOf most p bs .parser);
+    state = feedSliceOf limit p bs .parser;
+    told = feedSliceOf limit p bs .answer .count;
+    answer = answerOf (feedSliceOf limit p bs .answer .frame) (feedSliceOf limit p bs .parser);
   };
   reset = resetOf;
   counter = λ k p. counterIn k (p .stats);
-  most = counterMost;
-  unfinished = unfinishedOf most;
-  pending = pendingBy most;
+  max = counterMax;
+  unfinished = unfinishedOf limit;
+  pending = pendingBy limit;
 }

@@ -9,11 +9,11 @@ use Prim.Native.Nat.{ℕ}
 use lib.ListN.{replicate}
 use Rattle.scan.specs.Scan.{hunting, unfinishedBy}
 use Rattle.scan.specs.declared.Scan.{Scan}
-use Rattle.stats.specs.declared.Stats.{Stats}
+use Rattle.scan.specs.declared.stats.Stats.{Stats}
 use Rattle.parser.specs.declared.Parser.{Parser}
 use Rattle.parser.specs.declared.Fed.{Fed}
 use Rattle.parser.specs.declared.FedSlice.{FedSlice}
-use Rattle.feeding.specs.Moved.{bufOf, movedOf, sliceBufOf, sliceMovedOf}
+use Rattle.feed.specs.Moved.{bufOf, movedOf, sliceBufOf, sliceMovedOf}
 
 abbrev pub noStats : Stats
 noStats = record { frames = 0; resyncs = 0; dropped = 0; malformed = 0 }
@@ -25,18 +25,18 @@ abbrev pub put : List ℕ → Scan → Stats → Parser
 put buf c st = record { buf = buf; scan = c; stats = st }
 
 unfoldable pub feedOf : ℕ → Parser → ℕ → Fed
-feedOf most p b =
-    let m = movedOf most (p .scan) (p .stats) (p .buf) b in
-    record { parser = put (bufOf most (p .scan) (p .buf) b) (m .scan) (m .stats); answer = m .answer }
+feedOf limit p b =
+    let m = movedOf limit (p .scan) (p .stats) (p .buf) b in
+    record { parser = put (bufOf limit (p .scan) (p .buf) b) (m .scan) (m .stats); answer = m .answer }
 
 unfoldable pub feedSliceOf : ℕ → Parser → List ℕ → FedSlice
-feedSliceOf most p bs =
-    let m = sliceMovedOf most (p .scan) (p .stats) (p .buf) bs in
-    record { parser = put (sliceBufOf most (p .scan) (p .stats) (p .buf) bs) (m .scan) (m .stats); answer = m .answer }
+feedSliceOf limit p bs =
+    let m = sliceMovedOf limit (p .scan) (p .stats) (p .buf) bs in
+    record { parser = put (sliceBufOf limit (p .scan) (p .stats) (p .buf) bs) (m .scan) (m .stats); answer = m .answer }
 
 -- "`reset` forgets an unfinished frame and keeps the counters"
 abbrev pub resetOf : Parser → Parser
 resetOf p = put (p .buf) hunting (p .stats)
 
 unfoldable pub unfinishedOf : ℕ → Parser → ℕ
-unfinishedOf most p = unfinishedBy most (p .scan)
+unfinishedOf limit p = unfinishedBy limit (p .scan)

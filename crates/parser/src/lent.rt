@@ -1,21 +1,21 @@
-// The parser where it stands: the feeds and the reset of a parser that is lent, and the reset of a local.
+// The parser where it stands: the feeds and the reset of a parser that is lent.
 use super::Parser;
-use feeding::Taken;
-use feeding::feed_at;
-use feeding::feed_slice_at;
+use feed::Taken;
+use feed::feed_at;
+use feed::feed_slice_at;
 use frame::Frame;
 use scan::Scan;
 ghost use mathlib.Core.Path.{_≡_};
 ghost use mathlib.Core.List.{[]};
-ghost use Rattle.limit.specs.Length.{linkMost};
+ghost use Rattle.stream.specs.Length.{linkLimit};
 ghost use Rattle.parser.specs.Feed.{feedOf, feedSliceOf, resetOf};
-ghost use Rattle.parser.specs.Claims.{FromHere, FromAny, Determined};
+ghost use Rattle.parser.specs.Claims.{FromHere, FromAny, Determined, ResetFirst};
 
 impl Parser {
     // `fed` on a parser that is lent: it stays where it is, and nothing of its buffer is copied.
     pub fn feed(&mut self, byte: u8) -> Frame
-        ensures fed { λ r. ⌜ (r ≡ feedOf linkMost (now (self .entry)) byte .answer)
-            × (now (self .exit) ≡ feedOf linkMost (now (self .entry)) byte .parser) ⌝ }
+        ensures fed { λ r. ⌜ (r ≡ feedOf linkLimit (now (self .entry)) byte .answer)
+            × (now (self .exit) ≡ feedOf linkLimit (now (self .entry)) byte .parser) ⌝ }
         ensures any { λ _. ⌜ FromAny (now (self .entry)) ⌝ }
     {
         let scan = self.scan;
@@ -28,8 +28,8 @@ impl Parser {
 
     // `fed_slice` on a parser that is lent.
     pub fn feed_slice(&mut self, bytes: &[u8]) -> Taken
-        ensures fed { λ r. ⌜ (r ≡ feedSliceOf linkMost (now (self .entry)) (now (bytes .entry)) .answer)
-            × (now (self .exit) ≡ feedSliceOf linkMost (now (self .entry)) (now (bytes .entry)) .parser) ⌝ }
+        ensures fed { λ r. ⌜ (r ≡ feedSliceOf linkLimit (now (self .entry)) (now (bytes .entry)) .answer)
+            × (now (self .exit) ≡ feedSliceOf linkLimit (now (self .entry)) (now (bytes .entry)) .parser) ⌝ }
         ensures any { λ _. ⌜ FromAny (now (self .entry)) ⌝ }
     {
         let scan = self.scan;
@@ -45,19 +45,8 @@ impl Parser {
         ensures reset { λ _. ⌜ now (self .exit) ≡ resetOf (now (self .entry)) ⌝ }
         ensures fulfilled { λ _. ⌜ FromHere (now (self .exit)) ⌝ }
         ensures determined { λ _. ⌜ Determined [] (now (self .exit)) ⌝ }
+        ensures first { λ _. ⌜ ResetFirst (now (self .entry)) (now (self .exit)) ⌝ }
     {
         self.scan = Scan::hunting();
     }
-}
-
-// `Parser::cleared`, by a local that is lent to `Parser::reset`. Who calls this lends nothing, and needs no proof about
-// memory.
-pub fn reset_lent(parser: Parser) -> Parser
-    ensures reset { λ r. ⌜ r ≡ resetOf parser ⌝ }
-    ensures fulfilled { λ r. ⌜ FromHere r ⌝ }
-    ensures determined { λ r. ⌜ Determined [] r ⌝ }
-{
-    let mut lent = parser;
-    lent.reset();
-    lent
 }

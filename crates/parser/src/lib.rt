@@ -2,20 +2,19 @@
 //
 // The Rust's flat private fields stand in three parts: the buffer, the scan (where in a frame the parser is) and the
 // counters, so that a byte moves a few numbers and the buffer stays where it is.
-use feeding::Taken;
+use feed::Taken;
 use frame::Frame;
-use place::unfinished;
 use scan::Scan;
-use stats::Stats;
+use scan::Stats;
+use scan::unfinished;
 use wire::MAX_FRAME;
 
 mod lent;
 mod value;
 
-pub use lent::reset_lent;
 ghost use mathlib.Core.Path.{_≡_};
 ghost use mathlib.Core.List.{[]};
-ghost use Rattle.limit.specs.Length.{linkMost};
+ghost use Rattle.stream.specs.Length.{linkLimit};
 ghost use Rattle.parser.specs.Feed.{fresh, unfinishedOf};
 ghost use Rattle.parser.specs.Claims.{FromHere, Accounted, Determined};
 
@@ -67,7 +66,7 @@ impl Parser {
 
     // The length of the frame in progress.
     pub fn unfinished(self) -> usize
-        ensures told { λ r. ⌜ r ≡ unfinishedOf linkMost self ⌝ }
+        ensures told { λ r. ⌜ r ≡ unfinishedOf linkLimit self ⌝ }
     {
         let scan = self.scan;
         unfinished(scan)

@@ -1,12 +1,11 @@
-// The parser by value: taken, fed or reset, and handed back. A feed lends a local to the feed of a parser that is lent:
-// who calls it lends nothing, and needs no proof about memory.
+// The parser by value: taken, fed or reset, and handed back. Each lends a local to the same call of a parser that is
+// lent: who calls it lends nothing, and needs no proof about memory.
 use super::Fed;
 use super::FedSlice;
 use super::Parser;
-use scan::Scan;
 ghost use mathlib.Core.Path.{_≡_};
 ghost use mathlib.Core.List.{[]};
-ghost use Rattle.limit.specs.Length.{linkMost};
+ghost use Rattle.stream.specs.Length.{linkLimit};
 ghost use Rattle.parser.specs.Feed.{feedOf, feedSliceOf, resetOf};
 ghost use Rattle.parser.specs.Claims.{FromHere, FromAny, Determined, ResetFirst};
 
@@ -14,7 +13,7 @@ impl Parser {
     // Feeds one received byte; the answer is the frame that this byte completed, or no frame. A parser with a field out
     // of range is handled as if reset came first.
     pub fn fed(self, byte: u8) -> Fed
-        ensures fed { λ r. ⌜ r ≡ feedOf linkMost self byte ⌝ }
+        ensures fed { λ r. ⌜ r ≡ feedOf linkLimit self byte ⌝ }
         ensures any { λ _. ⌜ FromAny self ⌝ }
     {
         let mut lent = self;
@@ -28,7 +27,7 @@ impl Parser {
     // Feeds bytes up to and including the end of the first whole frame, decoded or not, else all of them; the answer
     // tells how many, and the frame. Call again with the rest.
     pub fn fed_slice(self, bytes: &[u8]) -> FedSlice
-        ensures fed { λ r. ⌜ r ≡ feedSliceOf linkMost self (now (bytes .entry)) ⌝ }
+        ensures fed { λ r. ⌜ r ≡ feedSliceOf linkLimit self (now (bytes .entry)) ⌝ }
         ensures any { λ _. ⌜ FromAny self ⌝ }
     {
         let mut lent = self;
@@ -48,12 +47,8 @@ impl Parser {
         ensures determined { λ r. ⌜ Determined [] r ⌝ }
         ensures first { λ r. ⌜ ResetFirst self r ⌝ }
     {
-        let buf = self.buf;
-        let stats = self.stats;
-        Parser {
-            buf,
-            scan: Scan::hunting(),
-            stats,
-        }
+        let mut lent = self;
+        lent.reset();
+        lent
     }
 }

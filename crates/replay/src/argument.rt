@@ -1,12 +1,12 @@
 // The fields of an argument: the little-endian number at a place. An op looks at its argument's length before it reads
 // them; where one is not there it reads as 0.
-use number::MaybeU8;
-use number::MaybeU16;
-use number::MaybeU32;
-use number::byte_at;
-use number::le16;
-use number::le32;
-use number::least;
+use ld2410::MaybeU8;
+use wire::MaybeU16;
+use wire::MaybeU32;
+use wire::byte_at;
+use wire::le16;
+use wire::le32;
+use wire::least;
 ghost use Prim.Native.Nat.{_<_};
 
 pub fn u8_at(argument: &[u8], at: usize) -> u8 {

@@ -1,5 +1,5 @@
 // Ops 6, 9 and 12: the encoder of commands, the reader of command frames, and the rates. Each puts the numbers that
-// stand behind its op.
+// stand after its op.
 use crate::argument::flag_at;
 use crate::argument::u8_at;
 use crate::argument::u16_at;
@@ -9,13 +9,13 @@ use crate::line::bytes;
 use crate::line::number;
 use crate::line::row;
 use crate::writers;
-use command::Command;
-use command_reader::CommandResult;
-use command_reader::read_command;
-use put::u16_bytes;
-use setting::Baud;
-use setting::Gate;
-use setting::MaybeBaud;
+use ld2410::Baud;
+use ld2410::Command;
+use ld2410::CommandResult;
+use ld2410::Gate;
+use ld2410::MaybeBaud;
+use ld2410::read_command;
+use writer::u16_bytes;
 
 // Op 6, on a buffer and a command: what its writer puts, then what the command says of itself.
 pub fn encode(out: &mut Text, taken: usize, argument: &[u8]) -> usize {

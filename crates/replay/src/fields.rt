@@ -3,13 +3,13 @@ use crate::argument::rest;
 use crate::argument::u8_at;
 use crate::argument::u32_at;
 use crate::argument::usize_at;
-use byte_string::copy_prefix;
-use parser::Parser;
-use scan::Scan;
-use scan::State;
-use stats::Stats;
-use wire::Kind;
-use wire::MAX_FRAME;
+use ld2410::Kind;
+use ld2410::MAX_FRAME;
+use ld2410::Parser;
+use ld2410::Scan;
+use ld2410::State;
+use ld2410::Stats;
+use wire::copy_prefix;
 
 // Where a parser's buffer begins in an argument of op 13.
 const BUFFER_AT: usize = 42;

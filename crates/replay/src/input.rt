@@ -6,7 +6,7 @@ ghost use lib.ListN.{length};
 // Bytes of the buffer: more than a case has.
 pub const SIZE: usize = 131_072;
 
-// Reads once, behind the bytes at the front that are kept, and answers how many bytes stand there then: as many as
+// Reads once, after the bytes at the front that are kept, and answers how many bytes stand there then: as many as
 // before where the input has ended or a read failed.
 pub fn more(input: &mut [u8], kept: usize) -> usize
     requires inside { ⌜ kept ≤ length (now input) ⌝ }

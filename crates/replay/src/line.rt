@@ -2,7 +2,7 @@
 //
 // Each function takes the buffer and how many of its bytes are taken, and answers how many are taken then.
 use libc::STDOUT_FILENO;
-use number::least;
+use wire::least;
 ghost use Prim.Native.Nat.{_<_, _≤_};
 
 // Bytes of the buffer.
@@ -11,10 +11,10 @@ pub const SIZE: usize = 65_536;
 // The buffer.
 pub type Text = [u8; SIZE];
 
-// A few numbers of a line, with zeros behind them.
+// A few numbers of a line, with zeros after them.
 pub type Row = [u64; 7];
 
-// Where the next byte goes: behind those that are taken, or in front once a full buffer is written.
+// Where the next byte goes: after those that are taken, or in front once a full buffer is written.
 fn room(out: &Text, taken: usize) -> usize
     ensures inside { λ r. ⌜ r < 65536 ⌝ }
 {
@@ -58,7 +58,7 @@ pub fn op(out: &mut Text, taken: usize, op: u8) -> usize {
     decimal(out, taken, op as u64)
 }
 
-// Puts a number behind a space.
+// Puts a number after a space.
 pub fn number(out: &mut Text, taken: usize, value: u64) -> usize {
     let n = put(out, taken, b' ');
     decimal(out, n, value)

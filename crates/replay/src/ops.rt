@@ -69,7 +69,7 @@ fn has_answer(op: u8, argument: &[u8]) -> bool {
     argument.len() >= shortest && writers::has_value(op, argument)
 }
 
-// Puts what stands behind the op in its line.
+// Puts what stands after the op in its line.
 fn fields(out: &mut Text, taken: usize, op: u8, argument: &[u8]) -> usize {
     match op {
         1 => readers::target_state(out, taken, argument),

@@ -1,5 +1,5 @@
 // Ops 1 to 5 and 14: the readers of reports, acknowledgements and whole frames, and the replies of an acknowledgement.
-// Each puts the numbers that stand behind its op.
+// Each puts the numbers that stand after its op.
 use crate::argument::flag_at;
 use crate::argument::rest;
 use crate::argument::u8_at;
@@ -10,12 +10,12 @@ use crate::line::number;
 use crate::line::row;
 use crate::replies;
 use crate::values;
-use ack::Ack;
-use ack::AckResult;
-use frame::Frame;
-use report::Report;
-use span::Span;
-use target_state::TargetState;
+use ld2410::Ack;
+use ld2410::AckResult;
+use ld2410::Frame;
+use ld2410::Report;
+use ld2410::Span;
+use ld2410::TargetState;
 
 // Op 1, on a byte.
 pub fn target_state(out: &mut Text, taken: usize, argument: &[u8]) -> usize {

@@ -5,12 +5,12 @@ use crate::line::bytes;
 use crate::line::number;
 use crate::line::row;
 use crate::values::gates;
-use ack::Ack;
-use ack::SpanResult;
-use parameters::ParametersResult;
-use reply::EnableConfigResult;
-use reply::FirmwareVersionResult;
-use reply::MacResult;
+use ld2410::Ack;
+use ld2410::EnableConfigResult;
+use ld2410::FirmwareVersionResult;
+use ld2410::MacResult;
+use ld2410::ParametersResult;
+use ld2410::SpanResult;
 
 // `expect` of the awaited word, then the replies, on an acknowledgement and the bytes that its payload stands in.
 pub fn all(out: &mut Text, taken: usize, ack: Ack, awaited: u16, data: &[u8]) -> usize {

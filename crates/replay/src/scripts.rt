@@ -1,24 +1,22 @@
-// Ops 10, 11 and 13: a script of calls on one parser, handed on from call to call. Its feeds lend the parser; in op 11
-// its resets do too. Each call puts a line, and a closing line follows.
+// Ops 10, 11 and 13: a script of calls on one parser, handed on from call to call; each lends the parser. Each puts a
+// line, and a closing line follows.
 use crate::argument::u8_at;
 use crate::argument::u16_at;
 use crate::line;
 use crate::line::Row;
 use crate::line::Text;
 use crate::values;
-use feeding::Taken;
-use frame::Frame;
-use number::least;
-use parser::FedSlice;
-use parser::Parser;
-use parser::reset_lent;
-use span::Span;
-use wire::MAX_FRAME;
+use ld2410::FedSlice;
+use ld2410::Frame;
+use ld2410::MAX_FRAME;
+use ld2410::Parser;
+use ld2410::Span;
+use ld2410::Taken;
+use wire::least;
 ghost use Prim.Native.Nat.{_≤_};
 ghost use lib.ListN.{length};
 
-// Makes the calls of a script, its resets by value or on a parser that is lent, up to one that is cut short or has no
-// meaning.
+// Makes the calls of a script, up to one that is cut short or has no meaning.
 pub fn run(out: &mut Text, taken: usize, op: u8, parser: Parser, script: &[u8]) -> usize {
     let mut now = parser;
     let mut n = taken;
@@ -29,7 +27,7 @@ pub fn run(out: &mut Text, taken: usize, op: u8, parser: Parser, script: &[u8]) 
             return closing(out, n, op, now);
         }
         let end = at + size;
-        let fed = call(op == 11, now, &script[at..end]);
+        let fed = call(now, &script[at..end]);
         n = answered(out, n, op, fed);
         now = fed.parser;
         at = end;
@@ -56,12 +54,12 @@ fn call_size(script: &[u8]) -> usize
 }
 
 // Makes the call that these bytes are.
-fn call(lent: bool, parser: Parser, bytes: &[u8]) -> FedSlice {
+fn call(parser: Parser, bytes: &[u8]) -> FedSlice {
     match u8_at(bytes, 0) {
         0 => fed(parser, u8_at(bytes, 1)),
         1 => parser.fed_slice(&bytes[least(3, bytes.len())..]),
         _ => FedSlice {
-            parser: cleared(lent, parser),
+            parser: parser.cleared(),
             answer: Taken {
                 count: 0,
                 frame: Frame::none(),
@@ -78,15 +76,6 @@ fn fed(parser: Parser, byte: u8) -> FedSlice {
     FedSlice {
         parser: after,
         answer: Taken { count: 1, frame },
-    }
-}
-
-// Resets.
-fn cleared(lent: bool, parser: Parser) -> Parser {
-    if lent {
-        reset_lent(parser)
-    } else {
-        parser.cleared()
     }
 }
 

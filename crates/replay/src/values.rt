@@ -4,15 +4,15 @@ use crate::line::Text;
 use crate::line::bytes;
 use crate::line::number;
 use crate::line::row;
-use ack::Ack;
-use engineering::Engineering;
-use frame::Frame;
-use frame::FrameKind;
-use number::MaybeU8;
-use report::MaybeTarget;
-use report::Report;
-use target_state::TargetState;
-use wire::GATES;
+use ld2410::Ack;
+use ld2410::Engineering;
+use ld2410::Frame;
+use ld2410::FrameKind;
+use ld2410::GATES;
+use ld2410::MaybeTarget;
+use ld2410::MaybeU8;
+use ld2410::Report;
+use ld2410::TargetState;
 
 // A target state: its byte, then what it says.
 pub fn target_state(state: TargetState) -> Row {

@@ -10,16 +10,16 @@ use crate::line::Row;
 use crate::line::Text;
 use crate::line::bytes;
 use crate::line::row;
-use ack_writer::write_ack;
-use byte_string::copy_prefix;
-use engineering::Engineering;
-use number::least;
-use report::Report;
-use report_writer::write_report;
-use target_state::TargetState;
-use wire::MAX_EXTRA;
+use ld2410::Engineering;
+use ld2410::MAX_EXTRA;
+use ld2410::Report;
+use ld2410::TargetState;
+use ld2410::WriteResult;
+use ld2410::write_ack;
+use ld2410::write_report;
+use wire::copy_prefix;
 use wire::gate_array;
-use writer::WriteResult;
+use wire::least;
 
 // The longest buffer.
 const LONGEST: usize = 65_535;

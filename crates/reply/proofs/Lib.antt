@@ -3,3 +3,7 @@
 pub mod Payloads
 -- An answer returns what its outcome says.
 pub mod Answers
+-- How a parameters payload begins: when it fits, and what it is read as.
+pub mod Beginnings
+-- A parameters payload: how it begins, and what it is read as.
+pub mod Sensitivities

@@ -1,2 +1,4 @@
 pub mod Reply
 pub mod Replies
+pub mod Fixed
+pub mod Parameters

@@ -7,7 +7,7 @@
 use mathlib.Core.List.{List}
 use Prim.Native.Nat.{ℕ}
 use lib.ListN.{take, drop, replicate}
-use Rattle.number.specs.Number.{little}
+use Rattle.wire.specs.Number.{little}
 use Rattle.refusal.specs.Refusal.{Returned, accepted, refused, beside}
 use Rattle.refusal.specs.declared.Outcome.{Outcome}
 use Rattle.refusal.specs.declared.Outcome.the-variants.{Ok, Err}

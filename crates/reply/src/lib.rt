@@ -1,14 +1,19 @@
 // What an acknowledgement's payload holds, by the command that it answers: reading three of the four replies. The crate
 // `parameters` has the fourth.
-use byte_string::copy_prefix;
-use number::MaybeU8;
-use number::MaybeU16;
-use number::MaybeU32;
-use number::byte_at;
-use number::le16;
-use number::le32;
+mod fixed;
+mod parameters;
+
+pub use parameters::Parameters;
+pub use parameters::ParametersResult;
 use refusal::Error;
 use refusal::Outcome;
+use wire::MaybeU8;
+use wire::MaybeU16;
+use wire::MaybeU32;
+use wire::byte_at;
+use wire::copy_prefix;
+use wire::le16;
+use wire::le32;
 ghost use mathlib.Core.Path.{_≡_};
 ghost use Rattle.refusal.specs.declared.Outcome.the-variants as Outcome;
 ghost use Rattle.reply.specs.Reply.{readAs};

@@ -1,4 +1,4 @@
--- The reader's answer by the layout, and by the checks behind it.
+-- The reader's answer by the layout, and by the checks after it.
 use mathlib.Core.Path.{_≡_, refl, sym, _∙_}
 use mathlib.Core.List.{List}
 use mathlib.Core.Bool.{true, false}
@@ -12,16 +12,16 @@ use Rattle.refusal.specs.declared.Check.{Check}
 use Rattle.refusal.specs.declared.Check.the-variants.{R6, R7, R8}
 use Rattle.refusal.specs.declared.MaybeCheck.{MaybeCheck}
 use Rattle.refusal.specs.declared.MaybeCheck.the-variants.{Some, None}
-use Rattle.gates.specs.Gates.{fits}
+use Rattle.engineering.specs.Gates.{fits}
 use Rattle.engineering.specs.Block.{engineeringOf, noEngineering}
-use Rattle.basic.specs.Basic.{basicOf}
-use Rattle.basic.specs.declared.Basic.{Basic}
-use Rattle.layout.specs.Layout.{dataType, body, block}
-use Rattle.layout.specs.Check.{reportChecks, failedIn, checkedLayout}
-use Rattle.layout.specs.declared.Layout.{Layout}
-use Rattle.layout.specs.declared.CheckedLayout.{CheckedLayout}
-use Rattle.layout.specs.declared.CheckedLayout.the-variants.{Ok, Failed}
-use Rattle.layout.proofs.Layouts.{first-failed, first-later}
+use Rattle.report.specs.Basic.{basicOf}
+use Rattle.report.specs.declared.basic.Basic.{Basic}
+use Rattle.report.specs.Layout.{dataType, body, block}
+use Rattle.report.specs.LayoutCheck.{reportChecks, failedIn, checkedLayout}
+use Rattle.report.specs.declared.layout.Layout.{Layout}
+use Rattle.report.specs.declared.layout.CheckedLayout.{CheckedLayout}
+use Rattle.report.specs.declared.layout.CheckedLayout.the-variants.{Ok, Failed}
+use Rattle.report.proofs.Layouts.{first-failed, first-later}
 use Rattle.report.specs.Report.{reportWith, reportOf, noReport}
 use Rattle.report.specs.Check.{passing, failing}
 use Rattle.report.specs.Check.{checkedAs, checkedReport, completedReport, parsedReport, returnedReport}

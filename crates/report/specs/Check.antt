@@ -3,7 +3,7 @@
 --   failing o               the answer where o names the first that fails: every field of the report is 0
 --   checkedAs o r           the answer by the first failed check o, if there is one
 --   checkedReport s         the reader's answer to the data s
---   completedReport f t b   the same from R6 on: of the basic fields f, the type t, the bytes b behind the basic ones
+--   completedReport f t b   the same from R6 on: of the basic fields f, the type t, the bytes b after the basic ones
 --   parsedReport s          the reader's answer, with the refusal that the check gives
 --   returnedReport r        the number and the values that such an answer r returns
 use mathlib.Core.List.{List}
@@ -13,8 +13,8 @@ use Rattle.refusal.specs.Check.{orFailed, firstFailed, outcomeOf}
 use Rattle.refusal.specs.declared.Check.the-variants.{R6, R7, R8}
 use Rattle.refusal.specs.declared.MaybeCheck.{MaybeCheck}
 use Rattle.refusal.specs.declared.MaybeCheck.the-variants.{Some, None}
-use Rattle.basic.specs.declared.Basic.{Basic}
-use Rattle.layout.specs.Check.{knownType, nothingAfter, blockFits, reportChecks}
+use Rattle.report.specs.declared.basic.Basic.{Basic}
+use Rattle.report.specs.LayoutCheck.{knownType, nothingAfter, blockFits, reportChecks}
 use Rattle.report.specs.Report.{reportBy, reportOf, noReport}
 use Rattle.report.specs.declared.Report.{Report}
 use Rattle.report.specs.declared.CheckedReport.{CheckedReport}

@@ -1,2 +1,5 @@
 pub mod Report
 pub mod Check
+pub mod Basic
+pub mod Layout
+pub mod LayoutCheck

@@ -1,6 +1,6 @@
 -- What report data that pass the checks are read as, and the targets that a report tells.
 --   reportWith f flag e   the report of the basic fields f and the engineering part e
---   reportBy f t b        the report of the basic fields f, the type t and the bytes b behind the basic ones
+--   reportBy f t b        the report of the basic fields f, the type t and the bytes b after the basic ones
 --   reportOf s            the report that data which pass the checks are read as
 --   noReport              every field 0
 --   targetIf there d e    the target at distance d with energy e, if it is there
@@ -13,9 +13,9 @@ use Rattle.engineering.specs.Block.{engineeringIf, noEngineering}
 use Rattle.target_state.specs.declared.TargetState.the-variants as State
 use Rattle.report.specs.declared.MaybeTarget.{MaybeTarget}
 use Rattle.report.specs.declared.MaybeTarget.the-variants as MaybeTarget
-use Rattle.basic.specs.Basic.{basicOf}
-use Rattle.basic.specs.declared.Basic.{Basic}
-use Rattle.layout.specs.Layout.{dataType, body, block, isEngineering}
+use Rattle.report.specs.Basic.{basicOf}
+use Rattle.report.specs.declared.basic.Basic.{Basic}
+use Rattle.report.specs.Layout.{dataType, body, block, isEngineering}
 use Rattle.engineering.specs.declared.Engineering.{Engineering}
 use Rattle.report.specs.declared.Report.{Report}
 

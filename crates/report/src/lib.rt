@@ -1,26 +1,29 @@
 // Reports of the LD2410: reading them from a report frame's data, and the targets that they tell.
 //
 // `Option<Engineering>` of the Rust is a flag beside the block, whose fields are all 0 where the flag is off.
+mod basic;
+mod layout;
+mod targets;
+
 use basic::Basic;
 use engineering::Engineering;
 use engineering::no_engineering;
 use layout::CheckedLayout;
 use layout::Layout;
+pub use layout::REPORT_HEAD;
+pub use layout::REPORT_TRAILER;
 use refusal::Check;
 use refusal::MaybeCheck;
 use refusal::Outcome;
 use target_state::TargetState;
-
-mod targets;
-
 ghost use mathlib.Core.Path.{_≡_};
 ghost use Rattle.refusal.specs.Check.{Causes};
 ghost use Rattle.report.specs.Report.{reportWith, noReport};
-ghost use Rattle.layout.specs.Check.{reportChecks};
+ghost use Rattle.report.specs.LayoutCheck.{reportChecks};
 ghost use Rattle.report.specs.Check.{passing, failing, checkedReport, completedReport, parsedReport};
 ghost use Rattle.report.specs.Check.{returnedReport};
 
-// Where the bytes behind the basic ones start in the data of a report frame.
+// Where the bytes after the basic ones start in the data of a report frame.
 const BLOCK_AT: usize = 11;
 
 // The data type of an engineering report.
@@ -43,12 +46,12 @@ pub enum MaybeTarget {
 
 // One periodic report from the module. `engineering` is all 0 where `has_engineering` is off.
 pub struct Report {
-    pub state: TargetState,
     pub moving_distance_cm: u16,
-    pub moving_energy: u8,
     pub stationary_distance_cm: u16,
-    pub stationary_energy: u8,
     pub detection_distance_cm: u16,
+    pub state: TargetState,
+    pub moving_energy: u8,
+    pub stationary_energy: u8,
     pub has_engineering: bool,
     pub engineering: Engineering,
 }
@@ -86,7 +89,7 @@ impl CheckedReport {
         }
     }
 
-    // Completes the report by its type and the bytes behind the basic ones: checks R6 to R8.
+    // Completes the report by its type and the bytes after the basic ones: checks R6 to R8.
     fn completed(basic: Basic, data_type: u8, block: &[u8]) -> Self
         ensures checked { λ r. ⌜ r ≡ completedReport basic data_type (now (block .entry)) ⌝ }
     {

@@ -7,21 +7,21 @@ use native.Mathlib.Omega.{arith}
 use lib.ListN.{length, drop}
 use Rattle.wire.specs.Family.{framed}
 use Rattle.wire.specs.declared.Kind.the-variants as Family
-use Rattle.number.specs.Bytes.{Bytes}
-use Rattle.put.proofs.Bytes.{bytes-take, bytes-drop}
+use Rattle.wire.specs.Bytes.{Bytes}
+use Rattle.writer.proofs.Bytes.{bytes-take, bytes-drop}
 use Rattle.target_state.specs.State.{stateMax}
 use Rattle.engineering.specs.Block.{reserved, engineeringOf}
-use Rattle.basic.specs.Basic.{basicOf}
-use Rattle.layout.specs.Layout.{dataType, body, block, isEngineering}
+use Rattle.report.specs.Basic.{basicOf}
+use Rattle.report.specs.Layout.{dataType, body, block, isEngineering}
 use Rattle.report.specs.Report.{reportBy, reportOf}
 use Rattle.report.specs.declared.Report.{Report}
-use Rattle.envelope.specs.Envelope.{announced, dataOf}
-use Rattle.report_data.specs.Data.{typeOf, basicBytes, blockIf, frontOf, reportData, reportFrame, trailer}
-use Rattle.writable.specs.Writable.{allZero, counted, within, writable}
+use Rattle.frame.specs.Envelope.{announced, dataOf}
+use Rattle.report_writer.specs.Data.{typeOf, basicBytes, blockIf, frontOf, reportData, reportFrame, trailer}
+use Rattle.report_writer.specs.Writable.{allZero, counted, within, writable}
 use Rattle.report_writer.specs.RoundTrip.{ReadAs, reports}
 use Rattle.report_writer.proofs.Basics.{basic-again}
 use Rattle.report_writer.proofs.Blocks.{block-within, block-again}
-use Rattle.writable.proofs.Counts.{within-complete}
+use Rattle.report_writer.proofs.Counts.{within-complete}
 use Rattle.report_writer.proofs.Reading.{Read, read-sound, read-framed}
 use Rattle.report_writer.proofs.Shapes.{View, plain, full, Shape, passes-shape}
 

@@ -17,11 +17,11 @@ use Rattle.writer.proofs.Writers.{Wrote, Shown, wrote-refused}
 use Rattle.writer.proofs.RoundTrip.{Agreed, ShownRound, shown-round}
 use Rattle.engineering.specs.declared.Engineering.{Engineering}
 use Rattle.report.specs.declared.Report.{Report}
-use Rattle.report_data.specs.Data.{reportData, reportFrame}
-use Rattle.writable.specs.Writable.{writableIf, writable, unrepresentable}
-use Rattle.writable.proofs.Counts.{within-sound}
-use Rattle.report_data.proofs.Typed.{TypedReport}
-use Rattle.report_data.proofs.Puts.{data-short}
+use Rattle.report_writer.specs.Data.{reportData, reportFrame}
+use Rattle.report_writer.specs.Writable.{writableIf, writable, unrepresentable}
+use Rattle.report_writer.proofs.Counts.{within-sound}
+use Rattle.report_writer.proofs.Typed.{TypedReport}
+use Rattle.report_writer.proofs.Puts.{data-short}
 use Rattle.report_writer.specs.RoundTrip.{reports}
 use Rattle.report_writer.proofs.Again.{read-within, read-writable, frame-again}
 use Rattle.report_writer.proofs.Back.{frame-back, frame-kept}

@@ -8,22 +8,22 @@ use Rattle.refusal.specs.Check.{Passes}
 use Rattle.wire.specs.declared.Kind.the-variants as Family
 use Rattle.target_state.specs.State.{stateMax}
 use Rattle.target_state.proofs.States.{byte-most}
-use Rattle.basic.specs.Basic.{basicOf}
+use Rattle.report.specs.Basic.{basicOf}
 use Rattle.report.specs.Report.{reportBy, reportOf}
-use Rattle.layout.specs.Check.{reportChecks}
+use Rattle.report.specs.LayoutCheck.{reportChecks}
 use Rattle.engineering.specs.declared.Engineering.{Engineering}
 use Rattle.report.specs.declared.Report.{Report}
-use Rattle.report_data.specs.Data.{typeOf, basicBytes, blockIf, blockOf, reportData, frontOf, reportFrame}
-use Rattle.writable.specs.Writable.{writableIf, writable}
-use Rattle.envelope.proofs.Framed.{framed-dataOf}
+use Rattle.report_writer.specs.Data.{typeOf, basicBytes, blockIf, blockOf, reportData, frontOf, reportFrame}
+use Rattle.report_writer.specs.Writable.{writableIf, writable}
+use Rattle.frame.proofs.Framed.{framed-dataOf}
 use Rattle.report_writer.specs.RoundTrip.{ReadAs, stateByte}
 use Rattle.report_writer.proofs.Basics.{basic-back}
 use Rattle.report_writer.proofs.Blocks.{none-back, block-fits, block-back}
-use Rattle.writable.proofs.Counts.{within-sound}
+use Rattle.report_writer.proofs.Counts.{within-sound}
 use Rattle.report_writer.proofs.Reading.{read-complete}
 use Rattle.report_writer.proofs.Shapes.{shaped, shaped-body, shaped-passes}
-use Rattle.report_data.proofs.Puts.{data-short}
-use Rattle.report_data.proofs.Typed.{TypedReport}
+use Rattle.report_writer.proofs.Puts.{data-short}
+use Rattle.report_writer.proofs.Typed.{TypedReport}
 
 module _ (r : Report) (t : TypedReport r) where
   abbrev e : Engineering

@@ -6,23 +6,23 @@ use native.Mathlib.Numerals.{add-one}
 use native.Mathlib.Omega.{arith}
 use lib.ListN.{length, getD, take, drop, length-take, length-drop, take-append-drop}
 use lib.Seq.{drop-cons, drop-drop}
-use Rattle.number.specs.Number.{little, leBytes}
-use Rattle.number.specs.Bytes.{Bytes}
-use Rattle.put.proofs.Bytes.{bytes-take, bytes-drop, leBytes-little}
+use Rattle.wire.specs.Number.{little, leBytes}
+use Rattle.wire.specs.Bytes.{Bytes}
+use Rattle.writer.proofs.Bytes.{bytes-take, bytes-drop, leBytes-little}
 use Rattle.target_state.specs.State.{stateMax}
-use Rattle.basic.specs.Basic.{basicOf}
+use Rattle.report.specs.Basic.{basicOf}
 use Rattle.report.specs.Report.{reportWith}
 use Rattle.engineering.specs.declared.Engineering.{Engineering}
 use Rattle.report.specs.declared.Report.{Report}
 use Rattle.target_state.proofs.States.{state-byte, byte-kept}
-use Rattle.report_data.specs.Data.{basicBytes}
-use Rattle.report_data.proofs.Typed.{TypedReport}
+use Rattle.report_writer.specs.Data.{basicBytes}
+use Rattle.report_writer.proofs.Typed.{TypedReport}
 use mathlib.Core.Bool.{Bool}
 
 two-bytes : (x : ℕ) → x < 65536 → little (x % 256 ∷ x / 256 % 256 ∷ []) ≡ x
 two-bytes x h = omega arith
 
--- The fields come back, whatever stands behind the nine bytes.
+-- The fields come back, whatever stands after the nine bytes.
 pub basic-back : (r : Report) (b : List ℕ) {g : Bool} {x : Engineering} → TypedReport r → g ≡ r .«has_engineering»
     → x ≡ r .engineering → reportWith (basicOf (basicBytes r ++ b)) g x ≡ r
 basic-back r b t p q =

@@ -6,17 +6,17 @@ use Prim.Native.Nat.{ℕ, _+_, _-_, _≤_}
 use native.Mathlib.Omega.{arith}
 use lib.ListN.{length, getD, take, drop, length-append, length-drop, take-append-drop}
 use lib.Seq.{take-at, drop-at, drop-drop, length-take-le}
-use Rattle.byte_string.specs.Prefix.{padded}
-use Rattle.gates.specs.Gates.{movingGates, stationaryGates, fits}
+use Rattle.wire.specs.Prefix.{padded}
+use Rattle.engineering.specs.Gates.{movingGates, stationaryGates, fits}
 use Rattle.engineering.specs.Block.{reserved, extraCount}
 use Rattle.engineering.specs.Block.{engineeringOf, noEngineering}
 use Rattle.engineering.specs.declared.Engineering.{Engineering}
-use Rattle.gates.proofs.Counts.{Fits, fits-complete}
-use Rattle.report_data.specs.Data.{movingEnergies, stationaryEnergies, reservedBytes, blockOf}
-use Rattle.writable.proofs.Counts.{Within}
-use Rattle.report_data.proofs.Typed.{TypedBlock}
+use Rattle.engineering.proofs.Counts.{Fits, fits-complete}
+use Rattle.report_writer.specs.Data.{movingEnergies, stationaryEnergies, reservedBytes, blockOf}
+use Rattle.report_writer.proofs.Counts.{Within}
+use Rattle.report_writer.proofs.Typed.{TypedBlock}
 use Rattle.report_writer.proofs.Padding.{zeros-whole, padded-back, padded-front, padded-behind}
-use Rattle.report_data.proofs.Puts.{moving-length, stationary-length, reserved-length}
+use Rattle.report_writer.proofs.Puts.{moving-length, stationary-length, reserved-length}
 use Rattle.report_writer.proofs.Shapes.{two-front}
 
 -- Two counts, so many energies of each and reserved bytes, taken apart.

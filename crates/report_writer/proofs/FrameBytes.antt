@@ -4,18 +4,18 @@ use mathlib.Core.List.{List, _∷_, _++_}
 use mathlib.Core.Bool.{Bool, true, false}
 use Prim.Native.Nat.{ℕ, _<_}
 use native.Mathlib.Omega.{arith}
-use Rattle.number.specs.Bytes.{Bytes}
-use Rattle.number.specs.Number.{leBytes}
+use Rattle.wire.specs.Bytes.{Bytes}
+use Rattle.wire.specs.Number.{leBytes}
 use Rattle.wire.specs.declared.Kind.the-variants as Family
-use Rattle.put.proofs.Bytes.{bytes-append, bytes-take, bytes-leBytes, framed-bytes}
+use Rattle.writer.proofs.Bytes.{bytes-append, bytes-take, bytes-leBytes, framed-bytes}
 use Rattle.target_state.proofs.States.{byte-most}
 use Rattle.engineering.specs.declared.Engineering.{Engineering}
 use Rattle.report.specs.declared.Report.{Report}
-use Rattle.report_data.specs.Data.{movingEnergies, stationaryEnergies, reservedBytes, blockOf, blockIf}
-use Rattle.report_data.specs.Data.{typeOf, frontOf, trailer, reportData, reportFrame}
-use Rattle.writable.specs.Writable.{writableIf, writable}
-use Rattle.writable.proofs.Counts.{within-sound}
-use Rattle.report_data.proofs.Typed.{TypedBlock, TypedReport}
+use Rattle.report_writer.specs.Data.{movingEnergies, stationaryEnergies, reservedBytes, blockOf, blockIf}
+use Rattle.report_writer.specs.Data.{typeOf, frontOf, trailer, reportData, reportFrame}
+use Rattle.report_writer.specs.Writable.{writableIf, writable}
+use Rattle.report_writer.proofs.Counts.{within-sound}
+use Rattle.report_writer.proofs.Typed.{TypedBlock, TypedReport}
 
 type-byte : (g : Bool) → typeOf g < 256
 type-byte true = omega arith

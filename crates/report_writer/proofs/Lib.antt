@@ -16,3 +16,12 @@ pub mod FrameBytes
 pub mod Again
 -- What the writer answers and leaves.
 pub mod Answers
+-- Laws about the definitions, which the proofs of this crate and of the crates above cite.
+-- Entries that are all 0.
+pub mod Zeros
+-- The tests of counts.
+pub mod Counts
+-- What the types of a report say.
+pub mod Typed
+-- The data of a report, put part by part.
+pub mod Puts

@@ -1,4 +1,4 @@
--- A counted prefix padded with zeros: it comes back from an array that is 0 behind it, and the array from it.
+-- A counted prefix padded with zeros: it comes back from an array that is 0 after it, and the array from it.
 use mathlib.Core.Path.{_≡_, refl, sym}
 use mathlib.Core.List.{List, [], _∷_, _++_}
 use mathlib.Core.Bool.{true}
@@ -8,11 +8,11 @@ use lib.Dec.{eqb}
 use lib.ListN.{length, take, drop, replicate, length-drop, take-append-drop}
 use lib.Seq.{length-take-le, take-all, take-at, drop-at}
 use borrow.Author.Tests.{eqb-true}
-use Rattle.byte_string.specs.Prefix.{padded}
-use Rattle.byte_string.proofs.Equality.{both-true}
-use Rattle.writable.specs.Writable.{allZero}
-use Rattle.writable.proofs.Counts.{Counted}
-use Rattle.report_data.proofs.Typed.{Held}
+use Rattle.wire.specs.Prefix.{padded}
+use Rattle.wire.proofs.Equality.{both-true}
+use Rattle.report_writer.specs.Writable.{allZero}
+use Rattle.report_writer.proofs.Counts.{Counted}
+use Rattle.report_writer.proofs.Typed.{Held}
 
 zeros-sound : (s : List ℕ) → allZero s ≡ true → s ≡ replicate (length s) 0
 unfolding allZero
@@ -28,7 +28,7 @@ unfolding allZero
 zeros-replicate zero = refl
 zeros-replicate (suc n) = zeros-replicate n
 
--- An array that is 0 behind its count is the padding of what is counted; one that is 0 throughout is zeros.
+-- An array that is 0 after its count is the padding of what is counted; one that is 0 throughout is zeros.
 module _ {a b k n : ℕ} {s : List ℕ} (h : Held k s) (c : Counted a b n s) where
   pub padded-back : b ≤ k → padded k (take n s) ≡ s
   unfolding padded
@@ -44,7 +44,7 @@ zeros-whole {n} {s} h c =
     let e : n ≡ 0 = omega arith in
     rw (← h .size) (sym (zeros-sound s (rw e at (c .behind))))
 
--- What was padded stands at the front, and what is behind it is 0.
+-- What was padded stands at the front, and what is after it is 0.
 module _ (k n : ℕ) (s : List ℕ) (l : length s ≡ n) (h : n ≤ k) where
   padded-whole : padded k s ≡ s ++ replicate (k - length s) 0
   unfolding padded

@@ -6,11 +6,11 @@ use Prim.Native.Nat.{ℕ, _+_, _≤_, _<_}
 use native.Mathlib.Omega.{arith}
 use lib.ListN.{length, drop}
 use borrow.Author.Tests.{leb-true}
-use Rattle.number.specs.Bytes.{Bytes}
+use Rattle.wire.specs.Bytes.{Bytes}
 use Rattle.wire.specs.Family.{tail, framed}
 use Rattle.refusal.specs.Check.{Passes, firstFailed, outcomeOf}
 use Rattle.refusal.proofs.Checks.{passes-sound, passes-complete}
-use Rattle.byte_string.proofs.Equality.{same-sound}
+use Rattle.wire.proofs.Equality.{same-sound}
 use Rattle.wire.specs.declared.Kind.the-variants as Family
 use Rattle.wire.specs.declared.MaybeKind.{MaybeKind}
 use Rattle.wire.specs.declared.MaybeKind.the-variants as Found
@@ -18,10 +18,10 @@ use Rattle.refusal.specs.declared.MaybeCheck.{MaybeCheck}
 use Rattle.refusal.specs.declared.MaybeCheck.the-variants as Maybe
 use Rattle.refusal.specs.declared.Outcome.the-variants.{Ok}
 use Rattle.writer.proofs.Framing.{cut-framed, checked-cut}
-use Rattle.layout.specs.Check.{reportChecks}
+use Rattle.report.specs.LayoutCheck.{reportChecks}
 use Rattle.report.specs.Report.{reportOf}
 use Rattle.report.specs.declared.Report.{Report}
-use Rattle.envelope.specs.Envelope.{family, announced, dataOf, endsAs}
+use Rattle.frame.specs.Envelope.{family, announced, dataOf, endsAs}
 use Rattle.frame.specs.Frame.{thenBody, frameIf, frameAs, checksFor, decoded}
 use Rattle.frame.specs.Frame.{checkedFrame, parsedFrame}
 use Rattle.frame.specs.declared.Frame.{Frame}

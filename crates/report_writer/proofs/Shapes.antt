@@ -1,4 +1,4 @@
--- Report data that pass the checks: type, AA, the basic bytes with what is behind them, 55, 00.
+-- Report data that pass the checks: type, AA, the basic bytes with what is after them, 55, 00.
 use mathlib.Core.Path.{_≡_, refl}
 use mathlib.Core.List.{List, [], _∷_, _++_}
 use mathlib.Core.Bool.{Bool, true, false, not, _||_}
@@ -9,12 +9,12 @@ use lib.ListN.{length, getD, drop, length-append, take-append-drop}
 use lib.Seq.{take-at, drop-at, drop-drop}
 use borrow.Author.Tests.{le-leb, leb-true, eqb-true}
 use Rattle.refusal.specs.Check.{Passes}
-use Rattle.byte_string.proofs.Equality.{same-sound, same-complete}
-use Rattle.gates.specs.Gates.{fits}
-use Rattle.layout.specs.Layout.{dataType, body, block}
-use Rattle.layout.specs.Check.{reportChecks, knownType, nothingAfter, blockFits}
-use Rattle.gates.proofs.Counts.{Fits, fits-sound}
-use Rattle.report_data.specs.Data.{trailer}
+use Rattle.wire.proofs.Equality.{same-sound, same-complete}
+use Rattle.engineering.specs.Gates.{fits}
+use Rattle.report.specs.Layout.{dataType, body, block}
+use Rattle.report.specs.LayoutCheck.{reportChecks, knownType, nothingAfter, blockFits}
+use Rattle.engineering.proofs.Counts.{Fits, fits-sound}
+use Rattle.report_writer.specs.Data.{trailer}
 
 module _ (t h : ℕ) (c : List ℕ) where
   abbrev pub shaped : List ℕ

@@ -1,1 +1,4 @@
 pub mod RoundTrip
+pub mod Writable
+pub mod Data
+pub mod Laid

@@ -13,15 +13,15 @@ use Rattle.refusal.specs.declared.Outcome.the-variants as Outcome
 use Rattle.writer.specs.RoundTrip.{Codec}
 use Rattle.target_state.specs.State.{stateMax}
 use Rattle.engineering.specs.Block.{reserved}
-use Rattle.basic.specs.Basic.{basicOf}
-use Rattle.layout.specs.Layout.{body, block}
+use Rattle.report.specs.Basic.{basicOf}
+use Rattle.report.specs.Layout.{body, block}
 use Rattle.report.specs.declared.Report.{Report}
-use Rattle.envelope.specs.Envelope.{dataOf}
+use Rattle.frame.specs.Envelope.{dataOf}
 use Rattle.frame.specs.Frame.{noAck, parsedFrame}
 use Rattle.frame.specs.declared.Frame.{Frame}
 use Rattle.frame.specs.declared.FrameKind.the-variants as Is
-use Rattle.report_data.specs.Data.{reportFrame}
-use Rattle.writable.specs.Writable.{unrepresentable}
+use Rattle.report_writer.specs.Data.{reportFrame}
+use Rattle.report_writer.specs.Writable.{unrepresentable}
 
 abbrev pub holding : Report → Frame
 holding r = record { kind = Is.Report; report = r; ack = noAck }

@@ -1,6 +1,9 @@
 // Writing report frames: every report that the reader gives, with at most eight reserved bytes, has its frame.
 //
 // What the reader cannot give is refused, so that reading what was written gives the report.
+mod report_data;
+mod writable;
+
 use refusal::Error;
 use report::Report;
 use report_data::lay;
@@ -12,13 +15,13 @@ ghost use mathlib.Core.Bool.{false};
 ghost use lib.ListN.{length};
 ghost use Rattle.writer.specs.Written.{answerOf, bufferAfter, WriteCauses};
 ghost use Rattle.writer.specs.RoundTrip.{RoundTrip};
-ghost use Rattle.report_data.specs.Data.{reportFrame};
-ghost use Rattle.writable.specs.Writable.{writable, unrepresentable};
+ghost use Rattle.report_writer.specs.Data.{reportFrame};
+ghost use Rattle.report_writer.specs.Writable.{writable, unrepresentable};
 ghost use Rattle.report_writer.specs.RoundTrip.{reports};
 
 // Writes the report's frame into the front of `out`, and answers the bytes written. Refuses with 6 a report that the
 // reader cannot give, or one of more than eight reserved bytes; then with 4 a buffer shorter than the frame. Bytes
-// behind the frame stay, and a refused call changes none.
+// after the frame stay, and a refused call changes none.
 pub fn write_report(out: &mut [u8], report: Report) -> WriteResult
     ensures told { λ r. ⌜ r ≡ answerOf (unrepresentable report) (reportFrame report) (length (now (out .entry))) ⌝ }
     ensures left { λ _. ⌜ now (out .exit) ≡ bufferAfter (unrepresentable report) (reportFrame report)

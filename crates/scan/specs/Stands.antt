@@ -1,39 +1,39 @@
 -- What a parser stands for, by the numbers of its scan: document 01, point 5.
---   OutOfRange most c   "A parser built by hand with fields out of range (..)"
---   Settled most c r    the scan c is handled as r: "as if reset came first" where it is out of range, else as it is
+--   OutOfRange limit c   "A parser built by hand with fields out of range (..)"
+--   Settled limit c r    the scan c is handled as r: "as if reset came first" where it is out of range, else as it is
 --   pendingOf c buf     the bytes of the frame in progress that a scan in range stands for, with its data bytes in buf
 use mathlib.Core.Path.{_≡_}
 use mathlib.Core.Logic.{_≢_}
 use mathlib.Core.List.{List, [], _∷_, _++_}
 use Prim.Native.Nat.{ℕ, _<_}
 use lib.ListN.{take}
-use Rattle.number.specs.Number.{leBytes}
+use Rattle.wire.specs.Number.{leBytes}
 use Rattle.wire.specs.Family.{header, tail}
 use Rattle.wire.specs.declared.Kind.{Kind}
-use Rattle.limit.specs.Length.{InRange}
+use Rattle.stream.specs.Length.{InRange}
 use Rattle.scan.specs.Scan.{hunting}
 use Rattle.scan.specs.declared.State.{State}
 use Rattle.scan.specs.declared.State.the-variants.{Header, Len, Data, Tail}
 use Rattle.scan.specs.declared.Scan.{Scan}
 
-pub data OutOfRange (most : ℕ) (c : Scan) : Type 0 where
+pub data OutOfRange (limit : ℕ) (c : Scan) : Type 0 where
   -- "matched above 3 in a header or tail"
-  header-matched : c .state ≡ Header → 3 < c .matched → OutOfRange most c
-  tail-matched : c .state ≡ Tail → 3 < c .matched → OutOfRange most c
+  header-matched : c .state ≡ Header → 3 < c .matched → OutOfRange limit c
+  tail-matched : c .state ≡ Tail → 3 < c .matched → OutOfRange limit c
   -- "in the length, matched above 1, length above 255, or length not 0 with matched 0"
-  length-matched : c .state ≡ Len → 1 < c .matched → OutOfRange most c
-  length-above : c .state ≡ Len → 255 < c .len → OutOfRange most c
-  length-early : c .state ≡ Len → c .len ≢ 0 → c .matched ≡ 0 → OutOfRange most c
+  length-matched : c .state ≡ Len → 1 < c .matched → OutOfRange limit c
+  length-above : c .state ≡ Len → 255 < c .len → OutOfRange limit c
+  length-early : c .state ≡ Len → c .len ≢ 0 → c .matched ≡ 0 → OutOfRange limit c
   -- "in data or tail, length outside 2 to 54"
-  data-length : c .state ≡ Data → ¬ InRange most (c .len) → OutOfRange most c
-  tail-length : c .state ≡ Tail → ¬ InRange most (c .len) → OutOfRange most c
+  data-length : c .state ≡ Data → ¬ InRange limit (c .len) → OutOfRange limit c
+  tail-length : c .state ≡ Tail → ¬ InRange limit (c .len) → OutOfRange limit c
   -- "position not below it in data, not equal to it in the tail"
-  data-position : c .state ≡ Data → ¬ (c .pos < c .len) → OutOfRange most c
-  tail-position : c .state ≡ Tail → c .pos ≢ c .len → OutOfRange most c
+  data-position : c .state ≡ Data → ¬ (c .pos < c .len) → OutOfRange limit c
+  tail-position : c .state ≡ Tail → c .pos ≢ c .len → OutOfRange limit c
 
-pub record Settled (most : ℕ) (c r : Scan) : Type 0 where
-  pub out : OutOfRange most c → r ≡ hunting
-  pub inside : ¬ OutOfRange most c → r ≡ c
+pub record Settled (limit : ℕ) (c r : Scan) : Type 0 where
+  pub out : OutOfRange limit c → r ≡ hunting
+  pub inside : ¬ OutOfRange limit c → r ≡ c
 
 abbrev pub pendingIn : State → Kind → ℕ → ℕ → ℕ → List ℕ → List ℕ
 -- as many bytes of the header as are matched

@@ -2,11 +2,18 @@
 //
 // A scan is a few numbers; the data bytes of the frame in progress stand in a buffer that the caller lends. A scan that
 // has a number out of range is handled as if reset came first.
-use limit::in_range;
+mod stats;
+
+pub use stats::Ended;
+pub use stats::Scanned;
+pub use stats::Stats;
+pub use stats::Stepped;
+use stream::in_range;
 use wire::Kind;
 ghost use mathlib.Core.Path.{_≡_};
-ghost use Rattle.limit.specs.Length.{linkMost};
-ghost use Rattle.scan.specs.Scan.{hunting, inOrder, settled};
+ghost use mathlib.Core.Bool.{true};
+ghost use Rattle.stream.specs.Length.{linkLimit};
+ghost use Rattle.scan.specs.Scan.{hunting, inOrder, settled, unfinishedAt, unfinishedBy};
 ghost use Rattle.scan.specs.Stands.{Settled};
 
 // Where in a frame the parser is.
@@ -46,7 +53,7 @@ impl Scan {
 
     // Whether no field is out of range.
     fn in_order(self) -> bool
-        ensures told { λ r. ⌜ r ≡ inOrder linkMost self ⌝ }
+        ensures told { λ r. ⌜ r ≡ inOrder linkLimit self ⌝ }
     {
         let state = self.state;
         match state {
@@ -60,13 +67,34 @@ impl Scan {
 
     // The scan, or, where a field is out of range, as if reset came first.
     pub fn settled(self) -> Self
-        ensures settled { λ r. ⌜ r ≡ settled linkMost self ⌝ }
-        ensures first { λ r. ⌜ Settled linkMost self r ⌝ }
+        ensures settled { λ r. ⌜ r ≡ settled linkLimit self ⌝ }
+        ensures first { λ r. ⌜ Settled linkLimit self r ⌝ }
     {
         if self.in_order() {
             self
         } else {
             Scan::hunting()
         }
+    }
+}
+
+// How many bytes of a frame are in progress.
+pub fn unfinished(scan: Scan) -> usize
+    ensures told { λ r. ⌜ r ≡ unfinishedBy linkLimit scan ⌝ }
+{
+    progress(scan.settled())
+}
+
+// The same of a scan in order.
+fn progress(scan: Scan) -> usize
+    requires { ⌜ inOrder linkLimit scan ≡ true ⌝ }
+    ensures told { λ r. ⌜ r ≡ unfinishedAt scan ⌝ }
+{
+    let state = scan.state;
+    match state {
+        State::Header => scan.matched,
+        State::Len => 4 + scan.matched,
+        State::Data => 6 + scan.pos,
+        State::Tail => 6 + scan.len + scan.matched,
     }
 }

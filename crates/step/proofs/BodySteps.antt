@@ -9,28 +9,28 @@ use lib.Dec.{eqb, ltb}
 use lib.ListN.{length, take, getD, set, length-append, length-take}
 use lib.Seq.{take-all, take-suc-set, length-take-le}
 use borrow.Author.Tests.{le-leb, ltb-false, eq-eqb, eqb-true, eqb-false}
-use Rattle.number.specs.Number.{little, leBytes}
+use Rattle.wire.specs.Number.{little, leBytes}
 use Rattle.wire.specs.Family.{header, tail}
 use Rattle.wire.specs.declared.Kind.{Kind}
 use Rattle.framing.proofs.Scanner as Scanner
-use Rattle.limit.specs.Length.{inRange}
+use Rattle.stream.specs.Length.{inRange}
 use Rattle.stream.proofs.Scan.{opens, wholes}
 use Rattle.stream.proofs.Link.{link}
 use Rattle.wire.proofs.Families.{header-length, tail-length}
 use Rattle.stream.proofs.Steps.{data-opens, data-not-whole, tail-opens, tail-not-whole, tail-whole}
 use Rattle.scan.specs.Scan.{at, hunting, inOrder}
 use Rattle.scan.specs.Stands.{pendingOf}
-use Rattle.stats.specs.Start.{went, abandoned, startOf}
+use Rattle.scan.specs.Start.{went, abandoned, startOf}
 use Rattle.step.specs.Step.{orElse}
 use Rattle.scan.specs.declared.State.the-variants.{Data, Tail}
 use Rattle.scan.specs.declared.Scan.{Scan}
-use Rattle.stats.specs.declared.Stats.{Stats}
-use Rattle.stats.specs.declared.Ended.the-variants.{Frame}
+use Rattle.scan.specs.declared.stats.Stats.{Stats}
+use Rattle.scan.specs.declared.stats.Ended.the-variants.{Frame}
 use Rattle.step.proofs.Follow.{Capped, Follows, follows-on, follows-end, follows-break}
 use Rattle.scan.proofs.Ranges.{and-intro, range-high}
 use Rattle.step.proofs.HeadSteps.{word-grows}
 
--- What is behind a header and a length n, with them; and more behind it.
+-- What is after a header and a length n, with them; and more after it.
 abbrev sized : Kind → ℕ → List ℕ → List ℕ
 sized k n d = header k ++ (leBytes 2 n ++ d)
 
@@ -38,20 +38,20 @@ sized-more : (k : Kind) (n : ℕ) (d t : List ℕ) → sized k n d ++ t ≡ size
 sized-more k n d t =
     append-assoc (header k) (leBytes 2 n ++ d) t ∙ ap (λ x. header k ++ x) (append-assoc (leBytes 2 n) d t)
 
-module _ (most : ℕ) (st : Stats) (cap : Capped st) (buf : List ℕ) (b : ℕ) where
-  -- Among the data bytes, and in the tail: behind a length n in range, of which the two bytes are read again as n.
-  module _ (k : Kind) (n : ℕ) (r : inRange most n ≡ true) (most-small : most < 65536) where
+module _ (limit : ℕ) (st : Stats) (cap : Capped st) (buf : List ℕ) (b : ℕ) where
+  -- Among the data bytes, and in the tail: after a length n in range, of which the two bytes are read again as n.
+  module _ (k : Kind) (n : ℕ) (r : inRange limit n ≡ true) (limit-small : limit < 65536) where
     again : little (leBytes 2 n) ≡ n
-    again = omega (arith, range-high most n r)
+    again = omega (arith, range-high limit n r)
 
-    -- What is read behind such a length.
-    opens-data : (d : List ℕ) → length d ≤ n → opens most (sized k n d) ≡ true
-    opens-data d l = data-opens most k (n % 256) (n / 256 % 256) d (rw again l) ∙ rw again r
+    -- What is read after such a length.
+    opens-data : (d : List ℕ) → length d ≤ n → opens limit (sized k n d) ≡ true
+    opens-data d l = data-opens limit k (n % 256) (n / 256 % 256) d (rw again l) ∙ rw again r
 
-    whole-data : (d : List ℕ) → length d ≤ n → wholes most (sized k n d) ≡ false
-    whole-data d l = data-not-whole most k (n % 256) (n / 256 % 256) d (rw again l)
+    whole-data : (d : List ℕ) → length d ≤ n → wholes limit (sized k n d) ≡ false
+    whole-data d l = data-not-whole limit k (n % 256) (n / 256 % 256) d (rw again l)
 
-    -- A data byte is stored behind those before it.
+    -- A data byte is stored after those before it.
     module _ (p : ℕ) (l : p < n) (room : n ≤ length buf) where
       abbrev came : List ℕ
       came = sized k n (take p buf)
@@ -66,16 +66,16 @@ module _ (most : ℕ) (st : Stats) (cap : Capped st) (buf : List ℕ) (b : ℕ) 
       fewer : length (take (suc p) (set buf p b)) ≤ n
       fewer = omega (arith, length-take (suc p) (set buf p b))
 
-      data-on : (c : Scan) → inOrder most c ≡ true
+      data-on : (c : Scan) → inOrder limit c ≡ true
           → pendingOf c (set buf p b) ≡ sized k n (take (suc p) (set buf p b))
-          → Follows most (went c st) st (set buf p b) (Scanner.step (link most) came b)
-      data-on c i e = follows-on most (set buf p b) c st came b cap i (e ∙ sym came-more)
+          → Follows limit (went c st) st (set buf p b) (Scanner.step (link limit) came b)
+      data-on c i e = follows-on limit (set buf p b) c st came b cap i (e ∙ sym came-more)
           (rw came-more (opens-data (take (suc p) (set buf p b)) fewer))
           (rw came-more (whole-data (take (suc p) (set buf p b)) fewer))
 
       pub data-as : (x : Bool) → ltb (p + 1) n ≡ x
-          → Follows most (orElse x (went (at Data k 0 n (p + 1)) st) (went (at Tail k 0 n n) st)) st (set buf p b)
-          (Scanner.step (link most) came b)
+          → Follows limit (orElse x (went (at Data k 0 n (p + 1)) st) (went (at Tail k 0 n n) st)) st (set buf p b)
+          (Scanner.step (link limit) came b)
       unfolding inOrder pendingOf
       data-as true e = data-on (at Data k 0 n (p + 1)) (and-intro r e) (rw (add-one p))
       data-as false e =
@@ -83,7 +83,7 @@ module _ (most : ℕ) (st : Stats) (cap : Capped st) (buf : List ℕ) (b : ℕ) 
           data-on (at Tail k 0 n n) (and-intro r (eq-eqb n n refl))
           (ap (sized k n) (append-nil (take n (set buf p b)) ∙ ap (λ i. take i (set buf p b)) z))
 
-    -- In the tail, behind all the data bytes.
+    -- In the tail, after all the data bytes.
     module _ (m : ℕ) (l : m ≤ 3) (room : n ≤ length buf) where
       abbrev whole-data-came : List ℕ
       whole-data-came = sized k n (take n buf ++ take m (tail k))
@@ -95,11 +95,11 @@ module _ (most : ℕ) (st : Stats) (cap : Capped st) (buf : List ℕ) (b : ℕ) 
       tail-came = sized-more k n (take n buf ++ take m (tail k)) (b ∷ [])
           ∙ ap (sized k n) (append-assoc (take n buf) (take m (tail k)) (b ∷ []))
 
-      in-range-again : inRange most (little (leBytes 2 n)) ≡ true
+      in-range-again : inRange limit (little (leBytes 2 n)) ≡ true
       in-range-again = rw again r
 
-      tail-next : opens most (whole-data-came ++ (b ∷ [])) ≡ eqb b (getD (tail k) m 0)
-      tail-next = rw tail-came (tail-opens most k (n % 256) (n / 256 % 256) (take n buf) tail-room in-range-again m b
+      tail-next : opens limit (whole-data-came ++ (b ∷ [])) ≡ eqb b (getD (tail k) m 0)
+      tail-next = rw tail-came (tail-opens limit k (n % 256) (n / 256 % 256) (take n buf) tail-room in-range-again m b
           (omega arith))
 
       tail-grown : b ≡ getD (tail k) m 0
@@ -108,22 +108,22 @@ module _ (most : ℕ) (st : Stats) (cap : Capped st) (buf : List ℕ) (b : ℕ) 
           (word-grows (tail k) m b (omega (arith, tail-length k)) e)
 
       tail-on : b ≡ getD (tail k) m 0 → (x : Bool) → eqb m 3 ≡ x
-          → Follows most (orElse x (record { scan = hunting; stats = st; ended = Frame k n })
-          (went (at Tail k (m + 1) n n) st)) st buf (Scanner.step (link most) whole-data-came b)
+          → Follows limit (orElse x (record { scan = hunting; stats = st; ended = Frame k n })
+          (went (at Tail k (m + 1) n n) st)) st buf (Scanner.step (link limit) whole-data-came b)
       unfolding inOrder pendingOf
       tail-on e true q =
           let z : m ≡ 3 = eqb-true m 3 q in
           let all : take (suc m) (tail k) ≡ tail k = take-all (suc m) (tail k) (omega (arith, tail-length k)) in
           let grown : whole-data-came ++ (b ∷ []) ≡ sized k n (take n buf ++ tail k) =
           tail-grown e ∙ ap (λ x. sized k n (take n buf ++ x)) all in
-          follows-end most buf k n st whole-data-came b cap (range-high most n r) (sym grown)
-          (rw grown (tail-whole most k (n % 256) (n / 256 % 256) (take n buf) tail-room in-range-again))
+          follows-end limit buf k n st whole-data-came b cap (range-high limit n r) (sym grown)
+          (rw grown (tail-whole limit k (n % 256) (n / 256 % 256) (take n buf) tail-room in-range-again))
       tail-on e false q =
           let z : (m ≡ 3 → ⊥) = eqb-false m 3 q in
-          follows-on most buf (at Tail k (m + 1) n n) st whole-data-came b cap
+          follows-on limit buf (at Tail k (m + 1) n n) st whole-data-came b cap
           (and-intro (le-leb (m + 1) 3 (omega arith)) (and-intro r (eq-eqb n n refl)))
           (rw (add-one m) (sym (tail-grown e))) (tail-next ∙ eq-eqb b _ e)
-          (rw tail-came (tail-not-whole most k (n % 256) (n / 256 % 256) (take n buf) tail-room in-range-again m b
+          (rw tail-came (tail-not-whole limit k (n % 256) (n / 256 % 256) (take n buf) tail-room in-range-again m b
           (omega arith)))
 
       tail-size : length whole-data-came ≡ 6 + n + m
@@ -137,9 +137,9 @@ module _ (most : ℕ) (st : Stats) (cap : Capped st) (buf : List ℕ) (b : ℕ) 
       )
 
       pub tail-as : (x : Bool) → eqb b (getD (tail k) m 0) ≡ x
-          → Follows most (orElse x (orElse (eqb m 3) (record { scan = hunting; stats = st; ended = Frame k n })
+          → Follows limit (orElse x (orElse (eqb m 3) (record { scan = hunting; stats = st; ended = Frame k n })
           (went (at Tail k (m + 1) n n) st)) (startOf (abandoned st (6 + n + m)) b)) st buf
-          (Scanner.step (link most) whole-data-came b)
+          (Scanner.step (link limit) whole-data-came b)
       tail-as true e = tail-on (eqb-true b _ e) (eqb m 3) refl
       tail-as false e =
-          follows-break most buf st whole-data-came b (6 + n + m) cap (omega arith) tail-size (tail-next ∙ e)
+          follows-break limit buf st whole-data-came b (6 + n + m) cap (omega arith) tail-size (tail-next ∙ e)

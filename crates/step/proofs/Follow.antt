@@ -8,9 +8,9 @@ use Prim.Native.Nat.{ℕ, _≤_, _<_}
 use native.Mathlib.Omega.{arith}
 use lib.Dec.{T}
 use lib.ListN.{length, take, getD}
-use Rattle.number.specs.Number.{leBytes}
-use Rattle.number.specs.Counter.{counterMost, bumped}
-use Rattle.number.proofs.Counters.{bumped-append, bumped-nil, bumped-most}
+use Rattle.wire.specs.Number.{leBytes}
+use Rattle.wire.specs.Counter.{counterMax, bumped}
+use Rattle.wire.proofs.Counters.{bumped-append, bumped-nil, bumped-most}
 use Rattle.wire.specs.Family.{header, tail, startingWith}
 use Rattle.wire.specs.declared.Kind.{Kind}
 use Rattle.wire.specs.declared.Kind.the-variants.{Report, Command}
@@ -24,20 +24,20 @@ use Rattle.stream.proofs.Link.{link}
 use Rattle.stream.proofs.Steps.{starting-sound, start-opens, start-strays, start-not-whole}
 use Rattle.scan.specs.Scan.{at, hunting, inOrder}
 use Rattle.scan.specs.Stands.{pendingOf}
-use Rattle.stats.specs.Start.{went, abandoned, startAs, startOf}
+use Rattle.scan.specs.Start.{went, abandoned, startAs, startOf}
 use Rattle.scan.specs.declared.State.the-variants.{Header}
 use Rattle.scan.specs.declared.Scan.{Scan}
-use Rattle.stats.specs.declared.Stats.{Stats}
-use Rattle.stats.specs.declared.Ended.{Ended}
-use Rattle.stats.specs.declared.Ended.the-variants.{Frame, Nothing}
-use Rattle.stats.specs.declared.Stepped.{Stepped}
+use Rattle.scan.specs.declared.stats.Stats.{Stats}
+use Rattle.scan.specs.declared.stats.Ended.{Ended}
+use Rattle.scan.specs.declared.stats.Ended.the-variants.{Frame, Nothing}
+use Rattle.scan.specs.declared.stats.Stepped.{Stepped}
 
 -- No counter is past its most, which the counters' type says.
 pub record Capped (st : Stats) : Type 0 where
-  pub frames : st .frames ≤ counterMost
-  pub resyncs : st .resyncs ≤ counterMost
-  pub dropped : st .dropped ≤ counterMost
-  pub malformed : st .malformed ≤ counterMost
+  pub frames : st .frames ≤ counterMax
+  pub resyncs : st .resyncs ≤ counterMax
+  pub dropped : st .dropped ≤ counterMax
+  pub malformed : st .malformed ≤ counterMax
 
 -- The bytes of the whole frame that ended, whose data are at the front of the buffer.
 abbrev pub endedAs : Ended → List ℕ → Option (List ℕ)
@@ -46,21 +46,21 @@ endedAs Nothing buf = none
 
 -- Its length is one that the stream takes.
 abbrev pub Fits : ℕ → Ended → Type 0
-Fits most (Frame k n) = n ≤ most
-Fits most Nothing = Unit {0}
+Fits limit (Frame k n) = n ≤ limit
+Fits limit Nothing = Unit {0}
 
 -- The step r, from the counters st and with the buffer left, does what the scanner's step x does.
-pub record Follows (most : ℕ) (r : Stepped) (st : Stats) (buf : List ℕ) (x : Scanner.Step) : Type 0 where
-  pub order : inOrder most (r .scan) ≡ true
+pub record Follows (limit : ℕ) (r : Stepped) (st : Stats) (buf : List ℕ) (x : Scanner.Step) : Type 0 where
+  pub order : inOrder limit (r .scan) ≡ true
   pub pending : pendingOf (r .scan) buf ≡ x .pending
   pub ended : endedAs (r .ended) buf ≡ x .ended
-  pub fits : Fits most (r .ended)
+  pub fits : Fits limit (r .ended)
   pub frames : r .stats .frames ≡ st .frames
   pub malformed : r .stats .malformed ≡ st .malformed
   pub resyncs : r .stats .resyncs ≡ bumped (st .resyncs) (sum resynced (x .closed))
   pub dropped : r .stats .dropped ≡ bumped (st .dropped) (sum lost (x .closed))
 
-module _ (most : ℕ) (buf : List ℕ) where
+module _ (limit : ℕ) (buf : List ℕ) where
   -- Of a test that passes, and of one that fails.
   passes : {b : Bool} → b ≡ true → T b
   passes e = rw e tt
@@ -69,10 +69,10 @@ module _ (most : ℕ) (buf : List ℕ) where
   fails e h = rw e at h
 
   -- The byte goes on with what is pending.
-  pub follows-on : (c : Scan) (st : Stats) (p : List ℕ) (b : ℕ) → Capped st → inOrder most c ≡ true
-      → pendingOf c buf ≡ p ++ (b ∷ []) → opens most (p ++ (b ∷ [])) ≡ true → wholes most (p ++ (b ∷ [])) ≡ false
-      → Follows most (went c st) st buf (Scanner.step (link most) p b)
-  follows-on c st p b cap i e o w = rw (step-on (link most) p b (passes o, fails w)) (record {
+  pub follows-on : (c : Scan) (st : Stats) (p : List ℕ) (b : ℕ) → Capped st → inOrder limit c ≡ true
+      → pendingOf c buf ≡ p ++ (b ∷ []) → opens limit (p ++ (b ∷ [])) ≡ true → wholes limit (p ++ (b ∷ [])) ≡ false
+      → Follows limit (went c st) st buf (Scanner.step (link limit) p b)
+  follows-on c st p b cap i e o w = rw (step-on (link limit) p b (passes o, fails w)) (record {
     order = i;
     pending = e;
     ended = refl;
@@ -84,11 +84,11 @@ module _ (most : ℕ) (buf : List ℕ) where
   })
 
   -- The byte ends a frame.
-  pub follows-end : (k : Kind) (n : ℕ) (st : Stats) (p : List ℕ) (b : ℕ) → Capped st → n ≤ most
-      → header k ++ (leBytes 2 n ++ (take n buf ++ tail k)) ≡ p ++ (b ∷ []) → wholes most (p ++ (b ∷ [])) ≡ true
-      → Follows most (record { scan = hunting; stats = st; ended = Frame k n }) st buf (Scanner.step (link most) p b)
+  pub follows-end : (k : Kind) (n : ℕ) (st : Stats) (p : List ℕ) (b : ℕ) → Capped st → n ≤ limit
+      → header k ++ (leBytes 2 n ++ (take n buf ++ tail k)) ≡ p ++ (b ∷ []) → wholes limit (p ++ (b ∷ [])) ≡ true
+      → Follows limit (record { scan = hunting; stats = st; ended = Frame k n }) st buf (Scanner.step (link limit) p b)
   unfolding inOrder pendingOf
-  follows-end k n st p b cap l e w = rw (step-whole (link most) p b (passes w)) (record {
+  follows-end k n st p b cap l e w = rw (step-whole (link limit) p b (passes w)) (record {
     order = refl;
     pending = refl;
     ended = ap some e;
@@ -105,11 +105,11 @@ module _ (most : ℕ) (buf : List ℕ) where
   first-pending Command b e = rw e
 
   start-as : (st : Stats) (b : ℕ) (o : MaybeKind) → startingWith b ≡ o → Capped st
-      → Follows most (startAs st o) st buf (Scanner.step (link most) [] b)
+      → Follows limit (startAs st o) st buf (Scanner.step (link limit) [] b)
   unfolding inOrder pendingOf
   start-as st b (Some k) e cap = follows-on (at Header k 1 0 0) st [] b cap refl
-      (first-pending k b (starting-sound b k e)) (start-opens most b k e) (start-not-whole most b)
-  start-as st b None e cap = rw (step-over (link most) [] b (fails (start-strays most b e))) (record {
+      (first-pending k b (starting-sound b k e)) (start-opens limit b k e) (start-not-whole limit b)
+  start-as st b None e cap = rw (step-over (link limit) [] b (fails (start-strays limit b e))) (record {
     order = refl;
     pending = refl;
     ended = refl;
@@ -121,7 +121,7 @@ module _ (most : ℕ) (buf : List ℕ) where
   })
 
   pub follows-start : (st : Stats) (b : ℕ) → Capped st
-      → Follows most (startOf st b) st buf (Scanner.step (link most) [] b)
+      → Follows limit (startOf st b) st buf (Scanner.step (link limit) [] b)
   unfolding startOf
   follows-start st b cap = start-as st b (startingWith b) refl cap
 
@@ -136,7 +136,7 @@ module _ (most : ℕ) (buf : List ℕ) where
   }
 
   after-broken : (st : Stats) (s : List ℕ) (r : Stepped) (x : Scanner.Step)
-      → Follows most r (abandoned st (length s)) buf x → Follows most r st buf (Scanner.breaks s x)
+      → Follows limit r (abandoned st (length s)) buf x → Follows limit r st buf (Scanner.breaks s x)
   unfolding abandoned
   after-broken st s r x f = record {
     order = f .order;
@@ -150,11 +150,11 @@ module _ (most : ℕ) (buf : List ℕ) where
   }
 
   pub follows-break : (st : Stats) (p : List ℕ) (b n : ℕ) → Capped st → 0 < n → length p ≡ n
-      → opens most (p ++ (b ∷ [])) ≡ false
-      → Follows most (startOf (abandoned st n) b) st buf (Scanner.step (link most) p b)
+      → opens limit (p ++ (b ∷ [])) ≡ false
+      → Follows limit (startOf (abandoned st n) b) st buf (Scanner.step (link limit) p b)
   follows-break st [] b n cap l e o = absurd (omega arith)
   follows-break st (x ∷ p) b n cap l e o =
       let left = abandoned st (length (x ∷ p)) in
-      rw (step-over (link most) (x ∷ p) b (fails o), ← e)
-      (after-broken st (x ∷ p) (startOf left b) (Scanner.step (link most) [] b)
+      rw (step-over (link limit) (x ∷ p) b (fails o), ← e)
+      (after-broken st (x ∷ p) (startOf left b) (Scanner.step (link limit) [] b)
       (follows-start left b (abandoned-capped st (length (x ∷ p)) cap)))

@@ -10,16 +10,16 @@ use Rattle.wire.specs.Family.{header, tail, startingWith}
 use Rattle.wire.specs.declared.Kind.{Kind}
 use Rattle.wire.specs.declared.MaybeKind.{MaybeKind}
 use Rattle.wire.specs.declared.MaybeKind.the-variants.{Some, None}
-use Rattle.limit.specs.Length.{inRange}
+use Rattle.stream.specs.Length.{inRange}
 use Rattle.scan.specs.Scan.{inOrder}
-use Rattle.stats.specs.Start.{abandoned, startAs, startOf}
+use Rattle.scan.specs.Start.{abandoned, startAs, startOf}
 use Rattle.step.specs.Step.{stepHeader, stepLen, stepData, stepTail}
 use Rattle.step.specs.Step.{stepIn, stepOf}
 use Rattle.scan.specs.declared.State.{State}
 use Rattle.scan.specs.declared.State.the-variants.{Header, Len, Data, Tail}
 use Rattle.scan.specs.declared.Scan.{Scan}
-use Rattle.stats.specs.declared.Stats.{Stats}
-use Rattle.stats.specs.declared.Stepped.{Stepped}
+use Rattle.scan.specs.declared.stats.Stats.{Stats}
+use Rattle.scan.specs.declared.stats.Stepped.{Stepped}
 use Rattle.scan.proofs.Ranges.{and-intro, range-low}
 use Rattle.step.proofs.Turns.{data-step, either}
 use Rattle.scan.proofs.Orders.{header-matched, tail-matched, tail-range, data-range, data-at-order}
@@ -30,51 +30,51 @@ ne-le m e l = let ne : (m ≡ 3 → ⊥) = eqb-false m 3 e in omega arith
 
 -- A step leaves a scan in order.
 abbrev Ordered : ℕ → Stepped → Type 0
-Ordered most r = inOrder most (r .scan) ≡ true
+Ordered limit r = inOrder limit (r .scan) ≡ true
 
-module _ (most b : ℕ) where
-  start-as-order : (st : Stats) (o : MaybeKind) → Ordered most (startAs st o)
+module _ (limit b : ℕ) where
+  start-as-order : (st : Stats) (o : MaybeKind) → Ordered limit (startAs st o)
   unfolding inOrder
   start-as-order st (Some k) = refl
   start-as-order st None = refl
 
-  start-order : (st : Stats) → Ordered most (startOf st b)
+  start-order : (st : Stats) → Ordered limit (startOf st b)
   unfolding startOf
   start-order st = start-as-order st (startingWith b)
 
   module _ (st : Stats) (k : Kind) where
-    header-order : (m : ℕ) → m ≤ 3 → Ordered most (stepHeader k m st b)
+    header-order : (m : ℕ) → m ≤ 3 → Ordered limit (stepHeader k m st b)
     unfolding inOrder
-    header-order m l = either (Ordered most) (eqb m 0) _ _ (λ z. start-order st)
-        (λ z. either (Ordered most) (eqb b (getD (header k) m 0)) _ _
-        (λ e. either (Ordered most) (eqb m 3) _ _ (λ t. refl) (λ t. le-leb (m + 1) 3 (omega (arith, ne-le m t l))))
+    header-order m l = either (Ordered limit) (eqb m 0) _ _ (λ z. start-order st)
+        (λ z. either (Ordered limit) (eqb b (getD (header k) m 0)) _ _
+        (λ e. either (Ordered limit) (eqb m 3) _ _ (λ t. refl) (λ t. le-leb (m + 1) 3 (omega (arith, ne-le m t l))))
         (λ e. start-order (abandoned st m)))
 
-    length-order : (m n : ℕ) → b < 256 → Ordered most (stepLen most k m n st b)
+    length-order : (m n : ℕ) → b < 256 → Ordered limit (stepLen limit k m n st b)
     unfolding inOrder
-    length-order m n l = either (Ordered most) (eqb m 0) _ _ (λ z. and-intro (le-leb b 255 (omega arith)) refl)
-        (λ z. either (Ordered most) (inRange most (n + 256 * b)) _ _
-        (λ r. and-intro r (lt-ltb 0 (n + 256 * b) (omega (arith, range-low most (n + 256 * b) r))))
+    length-order m n l = either (Ordered limit) (eqb m 0) _ _ (λ z. and-intro (le-leb b 255 (omega arith)) refl)
+        (λ z. either (Ordered limit) (inRange limit (n + 256 * b)) _ _
+        (λ r. and-intro r (lt-ltb 0 (n + 256 * b) (omega (arith, range-low limit (n + 256 * b) r))))
         (λ r. start-order (abandoned st 5)))
 
-    data-order : (n p : ℕ) → inRange most n ≡ true → Ordered most (stepData k n p st)
-    data-order n p r = rw (data-step st k n p) (data-at-order most k n (p + 1) r)
+    data-order : (n p : ℕ) → inRange limit n ≡ true → Ordered limit (stepData k n p st)
+    data-order n p r = rw (data-step st k n p) (data-at-order limit k n (p + 1) r)
 
-    tail-order : (m n : ℕ) → m ≤ 3 → inRange most n ≡ true → Ordered most (stepTail k m n st b)
+    tail-order : (m n : ℕ) → m ≤ 3 → inRange limit n ≡ true → Ordered limit (stepTail k m n st b)
     unfolding inOrder
-    tail-order m n l r = either (Ordered most) (eqb b (getD (tail k) m 0)) _ _
-        (λ e. either (Ordered most) (eqb m 3) _ _ (λ t. refl)
+    tail-order m n l r = either (Ordered limit) (eqb b (getD (tail k) m 0)) _ _
+        (λ e. either (Ordered limit) (eqb m 3) _ _ (λ t. refl)
         (λ t. and-intro (le-leb (m + 1) 3 (omega (arith, ne-le m t l))) (and-intro r (eq-eqb n n refl))))
         (λ e. start-order (abandoned st (6 + n + m)))
 
-  pub step-order : (c : Scan) (st : Stats) → inOrder most c ≡ true → b < 256
-      → inOrder most (stepOf most c st b .scan) ≡ true
+  pub step-order : (c : Scan) (st : Stats) → inOrder limit c ≡ true → b < 256
+      → inOrder limit (stepOf limit c st b .scan) ≡ true
   unfolding stepOf
   step-order c st o l = go (c .state) refl
     where
       go : (s : State) → c .state ≡ s
-          → Ordered most (stepIn most s (c .kind) (c .matched) (c .len) (c .pos) st b)
-      go Header e = header-order st (c .kind) (c .matched) (header-matched most c o e)
+          → Ordered limit (stepIn limit s (c .kind) (c .matched) (c .len) (c .pos) st b)
+      go Header e = header-order st (c .kind) (c .matched) (header-matched limit c o e)
       go Len e = length-order st (c .kind) (c .matched) (c .len) l
-      go Data e = data-order st (c .kind) (c .len) (c .pos) (data-range most c o e)
-      go Tail e = tail-order st (c .kind) (c .matched) (c .len) (tail-matched most c o e) (tail-range most c o e)
+      go Data e = data-order st (c .kind) (c .len) (c .pos) (data-range limit c o e)
+      go Tail e = tail-order st (c .kind) (c .matched) (c .len) (tail-matched limit c o e) (tail-range limit c o e)

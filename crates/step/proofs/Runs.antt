@@ -11,14 +11,14 @@ use Rattle.scan.specs.Scan.{inOrder}
 use Rattle.step.specs.Step.{stepOf, stored}
 use Rattle.step.specs.Slice.{Run, runAt, oneMore, thenRun, runOf}
 use Rattle.step.specs.Phase.{behind, runFrom, onFrom, Onward}
-use Rattle.stats.specs.Start.{takingOf}
+use Rattle.scan.specs.Start.{takingOf}
 use Rattle.wire.specs.declared.Kind.{Kind}
 use Rattle.scan.specs.declared.Scan.{Scan}
-use Rattle.stats.specs.declared.Stats.{Stats}
-use Rattle.stats.specs.declared.Ended.{Ended}
-use Rattle.stats.specs.declared.Ended.the-variants.{Frame, Nothing}
-use Rattle.stats.specs.declared.Stepped.{Stepped}
-use Rattle.stats.specs.declared.Scanned.{Scanned}
+use Rattle.scan.specs.declared.stats.Stats.{Stats}
+use Rattle.scan.specs.declared.stats.Ended.{Ended}
+use Rattle.scan.specs.declared.stats.Ended.the-variants.{Frame, Nothing}
+use Rattle.scan.specs.declared.stats.Stepped.{Stepped}
+use Rattle.scan.specs.declared.stats.Scanned.{Scanned}
 use Rattle.step.proofs.Onwards.{step-order}
 
 -- The run r, after n bytes.
@@ -28,64 +28,64 @@ counting r n = runAt (r .scanned .scan) (r .scanned .stats) (r .scanned .ended) 
 behind-more : (i : ℕ) (r : Run) → behind (i + 1) r ≡ behind i (oneMore r)
 behind-more i r = ap (counting r) (omega arith)
 
-module _ (most : ℕ) (c : Scan) (st : Stats) (buf bs : List ℕ) where
-  pub run-start : runFrom most c st buf bs 0 ≡ runOf most c st buf bs
+module _ (limit : ℕ) (c : Scan) (st : Stats) (buf bs : List ℕ) where
+  pub run-start : runFrom limit c st buf bs 0 ≡ runOf limit c st buf bs
   unfolding runFrom
-  run-start = ap (counting (runOf most c st buf bs)) (omega arith)
+  run-start = ap (counting (runOf limit c st buf bs)) (omega arith)
 
   module _ (i : ℕ) where
-    pub run-end : length bs ≤ i → runAt c st Nothing i buf ≡ runFrom most c st buf bs i
+    pub run-end : length bs ≤ i → runAt c st Nothing i buf ≡ runFrom limit c st buf bs i
     unfolding runFrom runOf
     run-end l = rw (drop-of-length-le bs l) (ap (λ n. runAt c st Nothing n buf) (omega arith))
 
     -- The byte number i, its step r and the buffer d that it leaves.
-    module _ (r : Stepped) (d : List ℕ) (inner : i < length bs) (e : r ≡ stepOf most c st (getD bs i 0))
+    module _ (r : Stepped) (d : List ℕ) (inner : i < length bs) (e : r ≡ stepOf limit c st (getD bs i 0))
         (f : d ≡ stored c buf (getD bs i 0)) where
-      pub run-next : behind i (thenRun (r .ended) r d (runOf most (r .scan) (r .stats) d (drop (suc i) bs)))
-          ≡ runFrom most c st buf bs i
+      pub run-next : behind i (thenRun (r .ended) r d (runOf limit (r .scan) (r .stats) d (drop (suc i) bs)))
+          ≡ runFrom limit c st buf bs i
       unfolding runFrom runOf
       run-next = rw (drop-cons bs i 0 inner, e, f)
 
-      pub run-on : r .ended ≡ Nothing → runFrom most (r .scan) (r .stats) d bs (i + 1) ≡ runFrom most c st buf bs i
+      pub run-on : r .ended ≡ Nothing → runFrom limit (r .scan) (r .stats) d bs (i + 1) ≡ runFrom limit c st buf bs i
       unfolding runFrom
       run-on q = behind-more i _ ∙ (rw add-one (rw q at run-next))
 
-      taking-rest : (x : Ended) → r .ended ≡ x → onFrom most (takingOf r (i + 1)) d bs ≡ runFrom most c st buf bs i
+      taking-rest : (x : Ended) → r .ended ≡ x → onFrom limit (takingOf r (i + 1)) d bs ≡ runFrom limit c st buf bs i
       unfolding onFrom
       taking-rest (Frame k n) q = rw q (rw q at run-next)
       taking-rest Nothing q = rw q (run-on q)
 
       -- One byte is a part.
-      pub step-onward : inOrder most c ≡ true → getD bs i 0 < 256 → Onward most c st buf bs i (takingOf r (i + 1)) d
+      pub step-onward : inOrder limit c ≡ true → getD bs i 0 < 256 → Onward limit c st buf bs i (takingOf r (i + 1)) d
       step-onward o l = record {
         forth = omega arith;
         inside = omega arith;
-        order = rw e (step-order most (getD bs i 0) c st o l);
+        order = rw e (step-order limit (getD bs i 0) c st o l);
         rest = taking-rest (r .ended) refl;
       }
 
 -- What is left of the bytes from number i on, run from here, comes to the whole run.
-pub record Left (most : ℕ) (whole : Run) (c : Scan) (st : Stats) (buf bs : List ℕ) (i : ℕ) : Type 0 where
+pub record Left (limit : ℕ) (whole : Run) (c : Scan) (st : Stats) (buf bs : List ℕ) (i : ℕ) : Type 0 where
   pub inside : i ≤ length bs
-  pub order : inOrder most c ≡ true
-  pub rest : runFrom most c st buf bs i ≡ whole
+  pub order : inOrder limit c ≡ true
+  pub rest : runFrom limit c st buf bs i ≡ whole
 
-module _ (most : ℕ) (c : Scan) (st : Stats) (buf bs : List ℕ) where
-  pub left-start : inOrder most c ≡ true → Left most (runOf most c st buf bs) c st buf bs 0
-  left-start o = record { inside = omega arith; order = o; rest = run-start most c st buf bs }
+module _ (limit : ℕ) (c : Scan) (st : Stats) (buf bs : List ℕ) where
+  pub left-start : inOrder limit c ≡ true → Left limit (runOf limit c st buf bs) c st buf bs 0
+  left-start o = record { inside = omega arith; order = o; rest = run-start limit c st buf bs }
 
-  module _ (whole : Run) (i : ℕ) (h : Left most whole c st buf bs i) where
+  module _ (whole : Run) (i : ℕ) (h : Left limit whole c st buf bs i) where
     pub left-end : length bs ≤ i → runAt c st Nothing i buf ≡ whole
-    left-end l = run-end most c st buf bs i l ∙ h .rest
+    left-end l = run-end limit c st buf bs i l ∙ h .rest
 
     -- The next part.
-    module _ (r : Scanned) (d : List ℕ) (f : Onward most c st buf bs i r d) where
+    module _ (r : Scanned) (d : List ℕ) (f : Onward limit c st buf bs i r d) where
       pub left-frame : (k : Kind) (n : ℕ) → r .ended ≡ Frame k n → record { scanned = r; buf = d } ≡ whole
       unfolding onFrom
       left-frame k n q =
           let rest = rw q at (f .rest) in
           rw q (rest ∙ h .rest)
 
-      pub left-on : r .ended ≡ Nothing → Left most whole (r .scan) (r .stats) d bs (r .taken)
+      pub left-on : r .ended ≡ Nothing → Left limit whole (r .scan) (r .stats) d bs (r .taken)
       unfolding onFrom
       left-on q = record { inside = f .inside; order = f .order; rest = (rw q at (f .rest)) ∙ h .rest }

@@ -10,7 +10,7 @@ use borrow.Author.Tests.{ltb-true, leb-true}
 use Rattle.wire.specs.Family.{tail}
 use Rattle.wire.specs.declared.Kind.{Kind}
 use Rattle.framing.proofs.Scanner as Scanner
-use Rattle.limit.specs.Length.{inRange}
+use Rattle.stream.specs.Length.{inRange}
 use Rattle.stream.proofs.Link.{link}
 use Rattle.scan.specs.Scan.{orderIn, inOrder}
 use Rattle.scan.specs.Stands.{pendingIn, pendingOf}
@@ -19,32 +19,33 @@ use Rattle.step.specs.Step.{storedIn, stored}
 use Rattle.scan.specs.declared.State.{State}
 use Rattle.scan.specs.declared.State.the-variants.{Header, Len, Data, Tail}
 use Rattle.scan.specs.declared.Scan.{Scan}
-use Rattle.stats.specs.declared.Stats.{Stats}
+use Rattle.scan.specs.declared.stats.Stats.{Stats}
 use Rattle.step.proofs.Follow.{Capped, Follows}
 use Rattle.scan.proofs.Ranges.{and-left, and-right, and-middle, range-high}
 use Rattle.step.proofs.HeadSteps.{header-follows, length-follows}
 use Rattle.step.proofs.BodySteps.{data-as, tail-as}
 
--- Every step of a scan in order, at the largest length `most`, with room for as many data bytes.
-module _ (most : ℕ) (most-small : most < 65536) (st : Stats) (cap : Capped st) (buf : List ℕ) (room : most ≤ length buf)
+-- Every step of a scan in order, at the largest length `limit`, with room for as many data bytes.
+module _ (limit : ℕ) (limit-small : limit < 65536) (st : Stats) (cap : Capped st) (buf : List ℕ)
+    (room : limit ≤ length buf)
     (b : ℕ) (byte : b < 256) where
-  follows-in : (s : State) (k : Kind) (m n p : ℕ) → orderIn most s m n p ≡ true
-      → Follows most (stepIn most s k m n p st b) st (storedIn s p buf b)
-      (Scanner.step (link most) (pendingIn s k m n p buf) b)
-  follows-in Header k m n p o = header-follows most st cap buf b k m (leb-true m 3 o)
+  follows-in : (s : State) (k : Kind) (m n p : ℕ) → orderIn limit s m n p ≡ true
+      → Follows limit (stepIn limit s k m n p st b) st (storedIn s p buf b)
+      (Scanner.step (link limit) (pendingIn s k m n p buf) b)
+  follows-in Header k m n p o = header-follows limit st cap buf b k m (leb-true m 3 o)
   follows-in Len k m n p o =
-      length-follows most st cap buf b k m n byte (leb-true m 1 (and-left (leb m 1) _ o))
+      length-follows limit st cap buf b k m n byte (leb-true m 1 (and-left (leb m 1) _ o))
       (leb-true n 255 (and-middle (leb m 1) (leb n 255) _ o))
   follows-in Data k m n p o =
-      let r : inRange most n ≡ true = and-left (inRange most n) (ltb p n) o in
-      data-as most st cap buf b k n r most-small p (ltb-true p n (and-right (inRange most n) (ltb p n) o))
-      (omega (arith, range-high most n r)) (ltb (p + 1) n) refl
+      let r : inRange limit n ≡ true = and-left (inRange limit n) (ltb p n) o in
+      data-as limit st cap buf b k n r limit-small p (ltb-true p n (and-right (inRange limit n) (ltb p n) o))
+      (omega (arith, range-high limit n r)) (ltb (p + 1) n) refl
   follows-in Tail k m n p o =
-      let r : inRange most n ≡ true = and-middle (leb m 3) (inRange most n) (eqb p n) o in
-      tail-as most st cap buf b k n r most-small m (leb-true m 3 (and-left (leb m 3) _ o))
-      (omega (arith, range-high most n r)) (eqb b (getD (tail k) m 0)) refl
+      let r : inRange limit n ≡ true = and-middle (leb m 3) (inRange limit n) (eqb p n) o in
+      tail-as limit st cap buf b k n r limit-small m (leb-true m 3 (and-left (leb m 3) _ o))
+      (omega (arith, range-high limit n r)) (eqb b (getD (tail k) m 0)) refl
 
-  pub follows : (c : Scan) → inOrder most c ≡ true
-      → Follows most (stepOf most c st b) st (stored c buf b) (Scanner.step (link most) (pendingOf c buf) b)
+  pub follows : (c : Scan) → inOrder limit c ≡ true
+      → Follows limit (stepOf limit c st b) st (stored c buf b) (Scanner.step (link limit) (pendingOf c buf) b)
   unfolding inOrder stepOf stored pendingOf
   follows c o = follows-in (c .state) (c .kind) (c .matched) (c .len) (c .pos) o

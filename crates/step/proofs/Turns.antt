@@ -9,9 +9,9 @@ use lib.ListN.{getD}
 use borrow.Author.Tests.{eq-eqb, ne-eqb}
 use Rattle.wire.specs.Family.{header, tail}
 use Rattle.wire.specs.declared.Kind.{Kind}
-use Rattle.limit.specs.Length.{inRange}
+use Rattle.stream.specs.Length.{inRange}
 use Rattle.scan.specs.Scan.{at, hunting}
-use Rattle.stats.specs.Start.{went, abandoned, startOf}
+use Rattle.scan.specs.Start.{went, abandoned, startOf}
 use Rattle.step.specs.Step.{orElse}
 use Rattle.step.specs.Step.{stepHeader, stepLen, stepData, stepTail, stepIn, stepOf}
 use Rattle.step.specs.Step.{storedIn, stored}
@@ -19,11 +19,11 @@ use Rattle.scan.specs.Scan.{pick, dataAt}
 use Rattle.scan.specs.declared.State.{State}
 use Rattle.scan.specs.declared.State.the-variants.{Header, Len, Data, Tail}
 use Rattle.scan.specs.declared.Scan.{Scan}
-use Rattle.stats.specs.declared.Stats.{Stats}
-use Rattle.stats.specs.declared.Ended.the-variants.{Frame}
-use Rattle.stats.specs.declared.Stepped.{Stepped}
+use Rattle.scan.specs.declared.stats.Stats.{Stats}
+use Rattle.scan.specs.declared.stats.Ended.the-variants.{Frame}
+use Rattle.scan.specs.declared.stats.Stepped.{Stepped}
 use Rattle.scan.proofs.Ranges.{range-low}
-use Rattle.place.proofs.Behind.{data-some}
+use Rattle.scan.proofs.Behind.{data-some}
 
 module _ (st : Stats) (b : ℕ) where
   module _ (k : Kind) (m : ℕ) where
@@ -41,18 +41,18 @@ module _ (st : Stats) (b : ℕ) where
       header-on e l = rw (ne-eqb m 0 came, eq-eqb b _ e, ne-eqb m 3 l)
 
     module _ (n : ℕ) where
-      module _ (most : ℕ) where
-        pub length-first : m ≡ 0 → stepLen most k m n st b ≡ went (at Len k 1 b 0) st
+      module _ (limit : ℕ) where
+        pub length-first : m ≡ 0 → stepLen limit k m n st b ≡ went (at Len k 1 b 0) st
         length-first z = rw (eq-eqb m 0 z)
 
-        pub length-in : (m ≡ 0 → ⊥) → inRange most (n + 256 * b) ≡ true
-            → stepLen most k m n st b ≡ went (dataAt k (n + 256 * b) 0) st
+        pub length-in : (m ≡ 0 → ⊥) → inRange limit (n + 256 * b) ≡ true
+            → stepLen limit k m n st b ≡ went (dataAt k (n + 256 * b) 0) st
         length-in z r =
-            let some : 0 < n + 256 * b = omega (arith, range-low most (n + 256 * b) r) in
+            let some : 0 < n + 256 * b = omega (arith, range-low limit (n + 256 * b) r) in
             rw (ne-eqb m 0 z, r, data-some k (n + 256 * b) 0 some)
 
-        pub length-out : (m ≡ 0 → ⊥) → inRange most (n + 256 * b) ≡ false
-            → stepLen most k m n st b ≡ startOf (abandoned st 5) b
+        pub length-out : (m ≡ 0 → ⊥) → inRange limit (n + 256 * b) ≡ false
+            → stepLen limit k m n st b ≡ startOf (abandoned st 5) b
         length-out z r = rw (ne-eqb m 0 z, r)
 
       pub tail-over : (b ≡ getD (tail k) m 0 → ⊥) → stepTail k m n st b ≡ startOf (abandoned st (6 + n + m)) b
@@ -76,10 +76,10 @@ module _ (st : Stats) (k : Kind) (n p : ℕ) where
 
 -- The step and the buffer, in a state that is known.
 module _ (c : Scan) (s : State) (e : c .state ≡ s) (b : ℕ) where
-  pub step-as : (most : ℕ) (st : Stats)
-      → stepIn most s (c .kind) (c .matched) (c .len) (c .pos) st b ≡ stepOf most c st b
+  pub step-as : (limit : ℕ) (st : Stats)
+      → stepIn limit s (c .kind) (c .matched) (c .len) (c .pos) st b ≡ stepOf limit c st b
   unfolding stepOf
-  step-as most st = rw e
+  step-as limit st = rw e
 
   pub stored-as : (buf : List ℕ) → storedIn s (c .pos) buf b ≡ stored c buf b
   unfolding stored

@@ -8,12 +8,12 @@ use lib.Dec.{T, eqb, leb, ltb}
 use lib.ListN.{length, take, drop, length-append, length-take, take-append-drop}
 use lib.Seq.{length-take-le, drop-at}
 use borrow.Author.Tests.{leb-true, ltb-true}
-use Rattle.number.specs.Number.{little, leBytes}
+use Rattle.wire.specs.Number.{little, leBytes}
 use Rattle.wire.specs.Family.{header, tail}
 use Rattle.wire.proofs.Families.{header-length, tail-length}
 use Rattle.wire.specs.declared.Kind.{Kind}
 use Rattle.stream.specs.Open.{in-header, in-length, in-data, in-tail, Whole}
-use Rattle.limit.specs.Length.{InRange, inRange}
+use Rattle.stream.specs.Length.{InRange, inRange}
 use Rattle.stream.proofs.Scan.{opens, wholes}
 use Rattle.stream.proofs.Opens.{opens-complete}
 use Rattle.stream.proofs.Wholes.{wholes-sound}
@@ -25,8 +25,8 @@ use Rattle.scan.specs.declared.Scan.{Scan}
 use Rattle.scan.proofs.Ranges.{and-left, and-right, and-middle, range-low, range-high}
 
 -- A whole frame is ten bytes longer than the length that it holds.
-whole-length : (most : ℕ) (s : List ℕ) → Whole most s → length s ≡ 10 + little (take 2 (drop 4 s))
-whole-length most s w =
+whole-length : (limit : ℕ) (s : List ℕ) → Whole limit s → length s ≡ 10 + little (take 2 (drop 4 s))
+whole-length limit s w =
     let r : List ℕ = w .lo ∷ w .hi ∷ (w .held ++ tail (w .kind)) in
     let behind : drop 4 s ≡ r = rw (w .spelled) (drop-at (header (w .kind)) r 4 (header-length (w .kind))) in
     rw behind (omega (
@@ -39,40 +39,40 @@ whole-length most s w =
       w .all-there,
     ))
 
-module _ (most : ℕ) where
+module _ (limit : ℕ) where
   -- Fewer bytes than ten, or than ten and the length that they hold, are no whole frame.
-  short : (s : List ℕ) → length s < 10 + little (take 2 (drop 4 s)) → T (wholes most s) → ⊥
-  short s l h = omega (arith, whole-length most s (wholes-sound most s h))
+  short : (s : List ℕ) → length s < 10 + little (take 2 (drop 4 s)) → T (wholes limit s) → ⊥
+  short s l h = omega (arith, whole-length limit s (wholes-sound limit s h))
 
   -- A part of the header.
   header-waits : (k : Kind) (m : ℕ) → m ≤ 3
-      → T (opens most (take m (header k))) × (T (wholes most (take m (header k))) → ⊥)
+      → T (opens limit (take m (header k))) × (T (wholes limit (take m (header k))) → ⊥)
   header-waits k m l = (
-    opens-complete most _ (in-header k (drop m (header k), take-append-drop m (header k))),
+    opens-complete limit _ (in-header k (drop m (header k), take-append-drop m (header k))),
     short (take m (header k)) (omega (arith, length-take m (header k))),
   )
 
   -- A header, and the first length byte or none.
   length-waits : (k : Kind) (m n : ℕ) → m ≤ 1
-      → T (opens most (header k ++ take m (n ∷ []))) × (T (wholes most (header k ++ take m (n ∷ []))) → ⊥)
+      → T (opens limit (header k ++ take m (n ∷ []))) × (T (wholes limit (header k ++ take m (n ∷ []))) → ⊥)
   length-waits k zero n l = (
-    opens-complete most _ (in-header k ([], rw (append-nil (header k), append-nil (header k)))),
+    opens-complete limit _ (in-header k ([], rw (append-nil (header k), append-nil (header k)))),
     short (header k ++ []) (omega (arith, length-append (header k) [], header-length k)),
   )
   length-waits k (suc zero) n l = (
-    opens-complete most _ (in-length k n refl),
+    opens-complete limit _ (in-length k n refl),
     short (header k ++ (n ∷ [])) (omega (arith, length-append (header k) (n ∷ []), header-length k)),
   )
   length-waits k (suc (suc m)) n l = absurd (omega arith)
 
   -- A header, a length in range and data bytes; then a part of the tail.
-  module _ (k : Kind) (n : ℕ) (r : inRange most n ≡ true) (small : most < 65536)
+  module _ (k : Kind) (n : ℕ) (r : inRange limit n ≡ true) (small : limit < 65536)
       (buf : List ℕ) (room : n ≤ length buf) where
     again : little (leBytes 2 n) ≡ n
-    again = omega (arith, range-high most n r)
+    again = omega (arith, range-high limit n r)
 
-    in-range : InRange most (little (leBytes 2 n))
-    in-range = rw again (range-low most n r, range-high most n r)
+    in-range : InRange limit (little (leBytes 2 n))
+    in-range = rw again (range-low limit n r, range-high limit n r)
 
     announced : (d : List ℕ) → little (take 2 (drop 4 (header k ++ (leBytes 2 n ++ d)))) ≡ n
     announced d = rw (drop-at (header k) (leBytes 2 n ++ d) 4 (header-length k)) again
@@ -80,10 +80,10 @@ module _ (most : ℕ) where
     data-size : (d : List ℕ) → length (header k ++ (leBytes 2 n ++ d)) ≡ 6 + length d
     data-size d = omega (arith, length-append (header k) (leBytes 2 n ++ d), header-length k)
 
-    data-waits : (p : ℕ) → p < n → T (opens most (header k ++ (leBytes 2 n ++ take p buf)))
-        × (T (wholes most (header k ++ (leBytes 2 n ++ take p buf))) → ⊥)
+    data-waits : (p : ℕ) → p < n → T (opens limit (header k ++ (leBytes 2 n ++ take p buf)))
+        × (T (wholes limit (header k ++ (leBytes 2 n ++ take p buf))) → ⊥)
     data-waits p l = (
-      opens-complete most _ (in-data k (n % 256) (n / 256 % 256) (take p buf) in-range
+      opens-complete limit _ (in-data k (n % 256) (n / 256 % 256) (take p buf) in-range
           (rw again (omega (arith, length-take p buf))) refl),
       short _ (omega (arith, announced (take p buf), data-size (take p buf), length-take p buf)),
     )
@@ -97,10 +97,10 @@ module _ (most : ℕ) where
       tail-length k,
     )
 
-    tail-waits : (m : ℕ) → m ≤ 3 → T (opens most (header k ++ (leBytes 2 n ++ (take n buf ++ take m (tail k)))))
-        × (T (wholes most (header k ++ (leBytes 2 n ++ (take n buf ++ take m (tail k))))) → ⊥)
+    tail-waits : (m : ℕ) → m ≤ 3 → T (opens limit (header k ++ (leBytes 2 n ++ (take n buf ++ take m (tail k)))))
+        × (T (wholes limit (header k ++ (leBytes 2 n ++ (take n buf ++ take m (tail k))))) → ⊥)
     tail-waits m l = (
-      opens-complete most _ (in-tail k (n % 256) (n / 256 % 256) (take n buf) (take m (tail k)) in-range
+      opens-complete limit _ (in-tail k (n % 256) (n / 256 % 256) (take n buf) (take m (tail k)) in-range
           (length-take-le n buf room ∙ sym again) (drop m (tail k), take-append-drop m (tail k)) refl),
       short _ (omega (
         arith,
@@ -111,49 +111,49 @@ module _ (most : ℕ) where
     )
 
 -- In every state.
-module _ (most : ℕ) (small : most < 65536) (buf : List ℕ) (room : most ≤ length buf) where
-  waits-in : (s : State) (k : Kind) (m n p : ℕ) → orderIn most s m n p ≡ true
-      → T (opens most (pendingIn s k m n p buf)) × (T (wholes most (pendingIn s k m n p buf)) → ⊥)
-  waits-in Header k m n p o = header-waits most k m (leb-true m 3 o)
-  waits-in Len k m n p o = length-waits most k m n (leb-true m 1 (and-left (leb m 1) _ o))
+module _ (limit : ℕ) (small : limit < 65536) (buf : List ℕ) (room : limit ≤ length buf) where
+  waits-in : (s : State) (k : Kind) (m n p : ℕ) → orderIn limit s m n p ≡ true
+      → T (opens limit (pendingIn s k m n p buf)) × (T (wholes limit (pendingIn s k m n p buf)) → ⊥)
+  waits-in Header k m n p o = header-waits limit k m (leb-true m 3 o)
+  waits-in Len k m n p o = length-waits limit k m n (leb-true m 1 (and-left (leb m 1) _ o))
   waits-in Data k m n p o =
-      let r : inRange most n ≡ true = and-left (inRange most n) (ltb p n) o in
-      data-waits most k n r small buf (omega (arith, range-high most n r)) p
-      (ltb-true p n (and-right (inRange most n) (ltb p n) o))
+      let r : inRange limit n ≡ true = and-left (inRange limit n) (ltb p n) o in
+      data-waits limit k n r small buf (omega (arith, range-high limit n r)) p
+      (ltb-true p n (and-right (inRange limit n) (ltb p n) o))
   waits-in Tail k m n p o =
-      let r : inRange most n ≡ true = and-middle (leb m 3) (inRange most n) (eqb p n) o in
-      tail-waits most k n r small buf (omega (arith, range-high most n r)) m
+      let r : inRange limit n ≡ true = and-middle (leb m 3) (inRange limit n) (eqb p n) o in
+      tail-waits limit k n r small buf (omega (arith, range-high limit n r)) m
       (leb-true m 3 (and-left (leb m 3) _ o))
 
-  length-in : (s : State) (k : Kind) (m n p : ℕ) → orderIn most s m n p ≡ true
+  length-in : (s : State) (k : Kind) (m n p : ℕ) → orderIn limit s m n p ≡ true
       → unfinishedIn s m n p ≡ length (pendingIn s k m n p buf)
   length-in Header k m n p o = omega (arith, leb-true m 3 o, length-take m (header k), header-length k)
   length-in Len k m n p o =
       let l : m ≤ 1 = leb-true m 1 (and-left (leb m 1) _ o) in
       omega (arith, length-append (header k) (take m (n ∷ [])), length-take m (n ∷ []), header-length k)
   length-in Data k m n p o =
-      let r : inRange most n ≡ true = and-left (inRange most n) (ltb p n) o in
+      let r : inRange limit n ≡ true = and-left (inRange limit n) (ltb p n) o in
       omega (
         arith,
-        data-size most k n r small buf (omega (arith, range-high most n r)) (take p buf),
+        data-size limit k n r small buf (omega (arith, range-high limit n r)) (take p buf),
         length-take p buf,
-        range-high most n r,
-        ltb-true p n (and-right (inRange most n) (ltb p n) o),
+        range-high limit n r,
+        ltb-true p n (and-right (inRange limit n) (ltb p n) o),
       )
   length-in Tail k m n p o =
-      let r : inRange most n ≡ true = and-middle (leb m 3) (inRange most n) (eqb p n) o in
-      let fits : n ≤ length buf = omega (arith, range-high most n r) in
+      let r : inRange limit n ≡ true = and-middle (leb m 3) (inRange limit n) (eqb p n) o in
+      let fits : n ≤ length buf = omega (arith, range-high limit n r) in
       omega (
         arith,
-        data-size most k n r small buf fits (take n buf ++ take m (tail k)),
-        tail-size most k n r small buf fits m (leb-true m 3 (and-left (leb m 3) _ o)),
+        data-size limit k n r small buf fits (take n buf ++ take m (tail k)),
+        tail-size limit k n r small buf fits m (leb-true m 3 (and-left (leb m 3) _ o)),
       )
 
-  pub waits : (c : Scan) → inOrder most c ≡ true
-      → T (opens most (pendingOf c buf)) × (T (wholes most (pendingOf c buf)) → ⊥)
+  pub waits : (c : Scan) → inOrder limit c ≡ true
+      → T (opens limit (pendingOf c buf)) × (T (wholes limit (pendingOf c buf)) → ⊥)
   unfolding inOrder pendingOf
   waits c o = waits-in (c .state) (c .kind) (c .matched) (c .len) (c .pos) o
 
-  pub pending-length : (c : Scan) → inOrder most c ≡ true → unfinishedAt c ≡ length (pendingOf c buf)
+  pub pending-length : (c : Scan) → inOrder limit c ≡ true → unfinishedAt c ≡ length (pendingOf c buf)
   unfolding inOrder pendingOf
   pending-length c o = length-in (c .state) (c .kind) (c .matched) (c .len) (c .pos) o

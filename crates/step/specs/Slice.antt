@@ -1,15 +1,15 @@
 -- What a slice of bytes does: their steps, one after the other, up to and with the first that ends a frame.
 --   Run                      what was scanned, and the buffer that it left
---   runOf most c st buf bs   the run of the bytes bs from the scan c, the counters st and the buffer buf
+--   runOf limit c st buf bs   the run of the bytes bs from the scan c, the counters st and the buffer buf
 use mathlib.Core.List.{List, [], _∷_}
 use Prim.Native.Nat.{ℕ, suc}
 use Rattle.step.specs.Step.{stepOf, stored}
 use Rattle.scan.specs.declared.Scan.{Scan}
-use Rattle.stats.specs.declared.Stats.{Stats}
-use Rattle.stats.specs.declared.Ended.{Ended}
-use Rattle.stats.specs.declared.Ended.the-variants.{Frame, Nothing}
-use Rattle.stats.specs.declared.Stepped.{Stepped}
-use Rattle.stats.specs.declared.Scanned.{Scanned}
+use Rattle.scan.specs.declared.stats.Stats.{Stats}
+use Rattle.scan.specs.declared.stats.Ended.{Ended}
+use Rattle.scan.specs.declared.stats.Ended.the-variants.{Frame, Nothing}
+use Rattle.scan.specs.declared.stats.Stepped.{Stepped}
+use Rattle.scan.specs.declared.stats.Scanned.{Scanned}
 
 pub record Run : Type 0 where
   pub scanned : Scanned
@@ -28,6 +28,6 @@ thenRun (Frame k n) r buf others = runAt (r .scan) (r .stats) (r .ended) 1 buf
 thenRun Nothing r buf others = oneMore others
 
 unfoldable pub runOf : ℕ → Scan → Stats → List ℕ → List ℕ → Run
-runOf most c st buf [] = runAt c st Nothing 0 buf
-runOf most c st buf (b ∷ bs) = thenRun (stepOf most c st b .ended) (stepOf most c st b) (stored c buf b)
-    (runOf most (stepOf most c st b .scan) (stepOf most c st b .stats) (stored c buf b) bs)
+runOf limit c st buf [] = runAt c st Nothing 0 buf
+runOf limit c st buf (b ∷ bs) = thenRun (stepOf limit c st b .ended) (stepOf limit c st b) (stored c buf b)
+    (runOf limit (stepOf limit c st b .scan) (stepOf limit c st b .stats) (stored c buf b) bs)

@@ -1,5 +1,5 @@
 -- What one byte does to a scan in order, to the counters and to the buffer.
---   stepOf most c st b the scan c and the counters st after the byte b, and whether it ended a frame
+--   stepOf limit c st b the scan c and the counters st after the byte b, and whether it ended a frame
 --   stored c buf b     the buffer after it: a data byte is stored at the scan's position
 use mathlib.Core.List.{List}
 use mathlib.Core.Bool.{Bool, true, false}
@@ -8,15 +8,15 @@ use lib.Dec.{ltb, eqb}
 use lib.ListN.{getD, set}
 use Rattle.wire.specs.Family.{header, tail}
 use Rattle.wire.specs.declared.Kind.{Kind}
-use Rattle.limit.specs.Length.{inRange}
+use Rattle.stream.specs.Length.{inRange}
 use Rattle.scan.specs.Scan.{at, hunting}
-use Rattle.stats.specs.Start.{went, abandoned, startOf}
+use Rattle.scan.specs.Start.{went, abandoned, startOf}
 use Rattle.scan.specs.declared.State.{State}
 use Rattle.scan.specs.declared.State.the-variants.{Header, Len, Data, Tail}
 use Rattle.scan.specs.declared.Scan.{Scan}
-use Rattle.stats.specs.declared.Stats.{Stats}
-use Rattle.stats.specs.declared.Ended.the-variants.{Frame}
-use Rattle.stats.specs.declared.Stepped.{Stepped}
+use Rattle.scan.specs.declared.stats.Stats.{Stats}
+use Rattle.scan.specs.declared.stats.Ended.the-variants.{Frame}
+use Rattle.scan.specs.declared.stats.Stepped.{Stepped}
 
 abbrev pub orElse : Bool → Stepped → Stepped → Stepped
 orElse true r other = r
@@ -30,7 +30,7 @@ stepHeader k m st b = orElse (eqb m 0) (startOf st b) (orElse (eqb b (getD (head
 
 -- the first length byte; or the second, which makes a length in range, or is tried as a new start
 abbrev pub stepLen : ℕ → Kind → ℕ → ℕ → Stats → ℕ → Stepped
-stepLen most k m n st b = orElse (eqb m 0) (went (at Len k 1 b 0) st) (orElse (inRange most (n + 256 * b))
+stepLen limit k m n st b = orElse (eqb m 0) (went (at Len k 1 b 0) st) (orElse (inRange limit (n + 256 * b))
     (went (at Data k 0 (n + 256 * b) 0) st)
     (startOf (abandoned st 5) b))
 
@@ -44,13 +44,13 @@ stepTail k m n st b = orElse (eqb b (getD (tail k) m 0))
     (startOf (abandoned st (6 + n + m)) b)
 
 abbrev pub stepIn : ℕ → State → Kind → ℕ → ℕ → ℕ → Stats → ℕ → Stepped
-stepIn most Header k m n p st b = stepHeader k m st b
-stepIn most Len k m n p st b = stepLen most k m n st b
-stepIn most Data k m n p st b = stepData k n p st
-stepIn most Tail k m n p st b = stepTail k m n st b
+stepIn limit Header k m n p st b = stepHeader k m st b
+stepIn limit Len k m n p st b = stepLen limit k m n st b
+stepIn limit Data k m n p st b = stepData k n p st
+stepIn limit Tail k m n p st b = stepTail k m n st b
 
 unfoldable pub stepOf : ℕ → Scan → Stats → ℕ → Stepped
-stepOf most c st b = stepIn most (c .state) (c .kind) (c .matched) (c .len) (c .pos) st b
+stepOf limit c st b = stepIn limit (c .state) (c .kind) (c .matched) (c .len) (c .pos) st b
 
 abbrev pub storedIn : State → ℕ → List ℕ → ℕ → List ℕ
 storedIn Header p buf b = buf

@@ -7,41 +7,41 @@ use native.Mathlib.Omega.{arith}
 use lib.Dec.{T}
 use lib.ListN.{length}
 use borrow.Author.Tests.{ne-eqb}
-use Rattle.number.specs.Number.{little, leBytes}
+use Rattle.wire.specs.Number.{little, leBytes}
 use Rattle.wire.specs.Family.{header, tail, startingWith, framed}
 use Rattle.wire.specs.declared.Kind.{Kind}
 use Rattle.wire.specs.declared.Kind.the-variants.{Report, Command}
 use Rattle.wire.specs.declared.MaybeKind.the-variants.{Some, None}
 use Rattle.engine.specs.Bytes.{Bytes}
-use Rattle.limit.specs.Length.{InRange}
+use Rattle.stream.specs.Length.{InRange}
 use Rattle.stream.specs.Open.{Open, Whole}
 use Rattle.stream.proofs.Scan.{opens}
 use Rattle.stream.proofs.Opens.{opens-sound, opens-complete}
 use Rattle.stream.proofs.Steps.{start-opens, start-strays}
 
-module _ (most b : ℕ) where
+module _ (limit b : ℕ) where
   begins-none : b ≢ 0xF4 → b ≢ 0xFD → startingWith b ≡ None
   begins-none p q = rw (ne-eqb b 0xF4 p, ne-eqb b 0xFD q)
 
-  opens-first : (k : Kind) → startingWith b ≡ Some k → T (opens most (b ∷ []))
-  opens-first k e = rw (start-opens most b k e) tt
+  opens-first : (k : Kind) → startingWith b ≡ Some k → T (opens limit (b ∷ []))
+  opens-first k e = rw (start-opens limit b k e) tt
 
-  report-first : b ≡ 0xF4 → T (opens most (b ∷ []))
+  report-first : b ≡ 0xF4 → T (opens limit (b ∷ []))
   report-first e = opens-first Report (rw e)
 
-  command-first : b ≡ 0xFD → T (opens most (b ∷ []))
+  command-first : b ≡ 0xFD → T (opens limit (b ∷ []))
   command-first e = opens-first Command (rw e)
 
-stray-tested : (most b : ℕ) → (T (opens most (b ∷ [])) → ⊥) ↔ (b ≢ 0xF4) × (b ≢ 0xFD)
-stray-tested most b = (
-  λ no. (λ e. no (report-first most b e), λ e. no (command-first most b e)),
-  λ ne h. rw (start-strays most b (begins-none most b (ne .0) (ne .1))) at h,
+stray-tested : (limit b : ℕ) → (T (opens limit (b ∷ [])) → ⊥) ↔ (b ≢ 0xF4) × (b ≢ 0xFD)
+stray-tested limit b = (
+  λ no. (λ e. no (report-first limit b e), λ e. no (command-first limit b e)),
+  λ ne h. rw (start-strays limit b (begins-none limit b (ne .0) (ne .1))) at h,
 )
 
-pub stray-bytes : (most b : ℕ) → (¬ Open most (b ∷ [])) ↔ (b ≢ 0xF4) × (b ≢ 0xFD)
-stray-bytes most b = (
-  (λ no. stray-tested most b .0 (λ h. no (opens-sound most (b ∷ []) h))),
-  (λ ne o. stray-tested most b .1 ne (opens-complete most (b ∷ []) o)),
+pub stray-bytes : (limit b : ℕ) → (¬ Open limit (b ∷ [])) ↔ (b ≢ 0xF4) × (b ≢ 0xFD)
+stray-bytes limit b = (
+  (λ no. stray-tested limit b .0 (λ h. no (opens-sound limit (b ∷ []) h))),
+  (λ ne o. stray-tested limit b .1 ne (opens-complete limit (b ∷ []) o)),
 )
 
 -- The two length bytes of a whole frame are those of the number of its data bytes.
@@ -56,22 +56,22 @@ two-again lo hi n l h e =
     let high : hi % 256 ≡ hi = omega arith in
     rw (quotient, low, high)
 
-pub whole-spelled : (most : ℕ) (s : List ℕ) → Bytes s → (w : Whole most s) → s ≡ framed (w .kind) (w .held)
+pub whole-spelled : (limit : ℕ) (s : List ℕ) → Bytes s → (w : Whole limit s) → s ≡ framed (w .kind) (w .held)
 unfolding framed
-whole-spelled most s bytes w =
+whole-spelled limit s bytes w =
     let rest : List ℕ = w .lo ∷ w .hi ∷ (w .held ++ tail (w .kind)) in
     let behind = every-behind (header (w .kind)) rest (rw (w .spelled) at bytes) in
     let two = two-again (w .lo) (w .hi) (length (w .held)) (behind .0) (behind .1 .0) (w .all-there) in
     w .spelled ∙ ap (λ l. header (w .kind) ++ (l ++ (w .held ++ tail (w .kind)))) (sym two)
 
 -- So many data bytes two length bytes can say.
-pub whole-short : (most : ℕ) (s : List ℕ) → Bytes s → (w : Whole most s) → length (w .held) < 65536
-whole-short most s bytes w =
+pub whole-short : (limit : ℕ) (s : List ℕ) → Bytes s → (w : Whole limit s) → length (w .held) < 65536
+whole-short limit s bytes w =
     let rest : List ℕ = w .lo ∷ w .hi ∷ (w .held ++ tail (w .kind)) in
     let behind = every-behind (header (w .kind)) rest (rw (w .spelled) at bytes) in
     omega (arith, w .all-there, behind .0, behind .1 .0)
 
-pub whole-framed : (most : ℕ) (s : List ℕ) → Bytes s → Whole most s
-    → (k : Kind) × (d : List ℕ) × InRange most (length d) × (s ≡ framed k d)
-whole-framed most s bytes w =
-    (w .kind, w .held, rw (w .all-there) (w .in-range), whole-spelled most s bytes w)
+pub whole-framed : (limit : ℕ) (s : List ℕ) → Bytes s → Whole limit s
+    → (k : Kind) × (d : List ℕ) × InRange limit (length d) × (s ≡ framed k d)
+whole-framed limit s bytes w =
+    (w .kind, w .held, rw (w .all-there) (w .in-range), whole-spelled limit s bytes w)

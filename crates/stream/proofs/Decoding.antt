@@ -14,7 +14,7 @@ use Rattle.wire.specs.declared.MaybeKind.{MaybeKind}
 use Rattle.wire.specs.declared.MaybeKind.the-variants as Found
 use Rattle.refusal.specs.declared.MaybeCheck.{MaybeCheck}
 use Rattle.refusal.specs.declared.MaybeCheck.the-variants as Maybe
-use Rattle.envelope.specs.Envelope.{family, dataOf}
+use Rattle.frame.specs.Envelope.{family, dataOf}
 use Rattle.frame.specs.Frame.{checksFor, frameOf, frameIf, frameAs, checkedFrame}
 use Rattle.frame.specs.declared.Frame.{Frame}
 use Rattle.framing.specs.Piece.{unfinished}

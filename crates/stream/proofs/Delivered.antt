@@ -14,13 +14,13 @@ use Rattle.refusal.specs.declared.MaybeCheck.{MaybeCheck}
 use Rattle.refusal.specs.declared.MaybeCheck.the-variants as Maybe
 use Rattle.ack.specs.Ack.{ackOf}
 use Rattle.frame.specs.Frame.{bodyChecks, frameOf, frameIf, decoded}
-use Rattle.envelope.proofs.Framed.{framed-data}
+use Rattle.frame.proofs.Framed.{framed-data}
 use Rattle.frame.proofs.Answers.{checked-framed}
 use Rattle.frame.specs.declared.Frame.{Frame}
 use Rattle.frame.specs.declared.CheckedFrame.{CheckedFrame}
 use Rattle.stream.specs.Deliver.{Answer, holds, decodes, countedIn, payloadOf, delivered}
 
--- What is left of a string behind its first bytes, whatever follows the string.
+-- What is left of a string after its first bytes, whatever follows the string.
 left-of : (n : ℕ) (d t : List ℕ) → take (length d - n) (drop n (d ++ t)) ≡ drop n d
 left-of zero d t = let z : length d - 0 ≡ length d = omega arith in rw z (take-at d t (length d) refl)
 left-of (suc n) [] t = let z : 0 - suc n ≡ 0 = omega arith in rw z

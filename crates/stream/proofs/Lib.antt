@@ -4,7 +4,7 @@ pub mod Laws
 pub mod Link
 -- The decoding and the counting.
 pub mod Decoding
--- What the tests say of a string behind a header.
+-- What the tests say of a string after a header.
 pub mod Headers
 -- What the tests say of a string that begins with a word.
 pub mod Words

@@ -19,25 +19,25 @@ use Rattle.stream.proofs.Decoding.{decoding, counting}
 use Rattle.stream.proofs.Opens.{opens-sound, opens-complete}
 use Rattle.stream.proofs.Wholes.{wholes-sound, wholes-complete}
 
-module _ (most : ℕ) where
+module _ (limit : ℕ) where
   abbrev pub tested : Protocol Answer Counter
-  tested = protocolOf (link most) decoding counting
+  tested = protocolOf (link limit) decoding counting
 
-  pub opens-are : (s : List ℕ) → link most .Open s ↔ Open most s
-  opens-are s = (opens-sound most s, opens-complete most s)
+  pub opens-are : (s : List ℕ) → link limit .Open s ↔ Open limit s
+  opens-are s = (opens-sound limit s, opens-complete limit s)
 
-  pub wholes-are : (s : List ℕ) → link most .Whole s ↔ Whole most s
-  wholes-are s = (wholes-sound most s, wholes-complete most s)
+  pub wholes-are : (s : List ℕ) → link limit .Whole s ↔ Whole limit s
+  wholes-are s = (wholes-sound limit s, wholes-complete limit s)
 
-  pub in-words : {s : List ℕ} {ps : List Piece} → Divides (link most) s ps → Words.Divides most s ps
+  pub in-words : {s : List ℕ} {ps : List Piece} → Divides (link limit) s ps → Words.Divides limit s ps
   in-words d = division-over opens-are wholes-are d
 
-  pub in-tests : {s : List ℕ} {ps : List Piece} → Words.Divides most s ps → Divides (link most) s ps
+  pub in-tests : {s : List ℕ} {ps : List Piece} → Words.Divides limit s ps → Divides (link limit) s ps
   in-tests d = division-over (λ t. turned (opens-are t)) (λ t. turned (wholes-are t)) d
 
   module _ {S : Type 0} (E : Engine S Answer Counter) (p : List ℕ) (s : S) (calls : List Call) where
-    pub linked : Fulfilled tested E p s calls → Fulfilled (ld2410 most) E p s calls
+    pub linked : Fulfilled tested E p s calls → Fulfilled (ld2410 limit) E p s calls
     linked = fulfilled-over tested opens-are wholes-are E p s calls
 
-    pub unlinked : Fulfilled (ld2410 most) E p s calls → Fulfilled tested E p s calls
-    unlinked = fulfilled-over (ld2410 most) (λ t. turned (opens-are t)) (λ t. turned (wholes-are t)) E p s calls
+    pub unlinked : Fulfilled (ld2410 limit) E p s calls → Fulfilled tested E p s calls
+    unlinked = fulfilled-over (ld2410 limit) (λ t. turned (opens-are t)) (λ t. turned (wholes-are t)) E p s calls

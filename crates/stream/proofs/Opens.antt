@@ -9,14 +9,14 @@ use native.Mathlib.Omega.{arith}
 use lib.Dec.{T}
 use lib.ListN.{length, take, drop, take-append-drop, drop-of-length-le}
 use lib.Seq.{length-take-le, drop-at}
-use Rattle.number.specs.Number.{little}
+use Rattle.wire.specs.Number.{little}
 use Rattle.wire.specs.Family.{header, tail, startingWith}
 use Rattle.wire.specs.declared.Kind.{Kind}
 use Rattle.wire.specs.declared.Kind.the-variants.{Report}
 use Rattle.wire.specs.declared.MaybeKind.{MaybeKind}
 use Rattle.wire.specs.declared.MaybeKind.the-variants.{Some, None}
 use Rattle.stream.specs.Open.{Prefix, Open, in-header, in-length, in-data, in-tail}
-use Rattle.limit.specs.Length.{InRange, inRange}
+use Rattle.stream.specs.Length.{InRange, inRange}
 use Rattle.stream.proofs.Scan.{behind, nothing, readsLength, reads, readsAs, opens}
 use Rattle.stream.proofs.Laws.{both-right, opens-prefix}
 use Rattle.stream.proofs.Headers.{opens-header}
@@ -29,59 +29,59 @@ tail-sound k t h = ⊎-elim (λ p. p)
     (λ p. ([], rw append-nil (p .1 ∙ ap (λ r. tail k ++ r) (nothing-sound (p .0) (p .2)) ∙ append-nil (tail k))))
     (behind-sound (tail k) nothing t h)
 
-module _ (most : ℕ) (k : Kind) where
-  -- Behind a length in range: data bytes, or all of them and a part of the tail.
-  data-sound : (lo hi : ℕ) (r : List ℕ) → InRange most (little (lo ∷ hi ∷ []))
-      → Prefix (drop (little (lo ∷ hi ∷ [])) r) (tail k) → Open most (header k ++ (lo ∷ hi ∷ r))
+module _ (limit : ℕ) (k : Kind) where
+  -- After a length in range: data bytes, or all of them and a part of the tail.
+  data-sound : (lo hi : ℕ) (r : List ℕ) → InRange limit (little (lo ∷ hi ∷ []))
+      → Prefix (drop (little (lo ∷ hi ∷ [])) r) (tail k) → Open limit (header k ++ (lo ∷ hi ∷ r))
   data-sound lo hi r n p = go (decLe (length r) (little (lo ∷ hi ∷ [])))
     where
-      go : Dec (length r ≤ little (lo ∷ hi ∷ [])) → Open most (header k ++ (lo ∷ hi ∷ r))
+      go : Dec (length r ≤ little (lo ∷ hi ∷ [])) → Open limit (header k ++ (lo ∷ hi ∷ r))
       go (yes l) = in-data k lo hi r n l refl
       go (no l) =
           let h : little (lo ∷ hi ∷ []) ≤ length r = omega arith in
           in-tail k lo hi (take (little (lo ∷ hi ∷ [])) r) (drop (little (lo ∷ hi ∷ [])) r) n (length-take-le _ r h) p
           (rw (take-append-drop (little (lo ∷ hi ∷ [])) r))
 
-  length-sound : (r : List ℕ) → T (readsLength true most k r) → Open most (header k ++ r)
+  length-sound : (r : List ℕ) → T (readsLength true limit k r) → Open limit (header k ++ r)
   length-sound [] h = in-header k ([], rw (append-nil (header k), append-nil (header k)))
   length-sound (lo ∷ []) h = in-length k lo refl
   length-sound (lo ∷ hi ∷ r) h =
       let n : ℕ = little (lo ∷ hi ∷ []) in
-      data-sound lo hi r (range-sound most n (both-left (inRange most n) (behind true (tail k) nothing (drop n r)) h))
-      (tail-sound k (drop n r) (both-right (inRange most n) (behind true (tail k) nothing (drop n r)) h))
+      data-sound lo hi r (range-sound limit n (both-left (inRange limit n) (behind true (tail k) nothing (drop n r)) h))
+      (tail-sound k (drop n r) (both-right (inRange limit n) (behind true (tail k) nothing (drop n r)) h))
 
-  reads-sound : (s : List ℕ) → T (reads true most k s) → Open most s
+  reads-sound : (s : List ℕ) → T (reads true limit k s) → Open limit s
   unfolding reads
   reads-sound s h = ⊎-elim (λ p. in-header k p) (λ p. rw (p .1) (length-sound (p .0) (p .2)))
-      (behind-sound (header k) (readsLength true most k) s h)
+      (behind-sound (header k) (readsLength true limit k) s h)
 
-module _ (most : ℕ) where
-  as-sound : (o : MaybeKind) (s : List ℕ) → T (readsAs true most o s) → Open most s
-  as-sound (Some k) s h = reads-sound most k s h
+module _ (limit : ℕ) where
+  as-sound : (o : MaybeKind) (s : List ℕ) → T (readsAs true limit o s) → Open limit s
+  as-sound (Some k) s h = reads-sound limit k s h
   as-sound None s h = absurd h
 
-  pub opens-sound : (s : List ℕ) → T (opens most s) → Open most s
+  pub opens-sound : (s : List ℕ) → T (opens limit s) → Open limit s
   unfolding opens
   opens-sound [] h = in-header Report (header Report, refl)
   opens-sound (b ∷ s) h = as-sound (startingWith b) (b ∷ s) h
 
   -- A part of a header passes, since the header does.
-  header-complete : (k : Kind) (s : List ℕ) → Prefix s (header k) → T (opens most s)
-  header-complete k s p = opens-prefix most s (p .0) (rw (p .1) (header-opens k))
+  header-complete : (k : Kind) (s : List ℕ) → Prefix s (header k) → T (opens limit s)
+  header-complete k s p = opens-prefix limit s (p .0) (rw (p .1) (header-opens k))
     where
-      header-opens : (k : Kind) → T (opens most (header k))
-      header-opens k = rw (← append-nil (header k), opens-header most k []) tt
+      header-opens : (k : Kind) → T (opens limit (header k))
+      header-opens k = rw (← append-nil (header k), opens-header limit k []) tt
 
-  tail-complete : (k : Kind) (lo hi : ℕ) (r : List ℕ) → InRange most (little (lo ∷ hi ∷ []))
-      → Prefix (drop (little (lo ∷ hi ∷ [])) r) (tail k) → T (opens most (header k ++ (lo ∷ hi ∷ r)))
+  tail-complete : (k : Kind) (lo hi : ℕ) (r : List ℕ) → InRange limit (little (lo ∷ hi ∷ []))
+      → Prefix (drop (little (lo ∷ hi ∷ [])) r) (tail k) → T (opens limit (header k ++ (lo ∷ hi ∷ r)))
   tail-complete k lo hi r n p =
       let m : ℕ = little (lo ∷ hi ∷ []) in
-      rw (opens-header most k (lo ∷ hi ∷ r)) (both (inRange most m) (behind true (tail k) nothing (drop m r))
-      (range-complete most m n) (behind-within (tail k) nothing (drop m r) (p .0) tt (p .1)))
+      rw (opens-header limit k (lo ∷ hi ∷ r)) (both (inRange limit m) (behind true (tail k) nothing (drop m r))
+      (range-complete limit m n) (behind-within (tail k) nothing (drop m r) (p .0) tt (p .1)))
 
-  pub opens-complete : (s : List ℕ) → Open most s → T (opens most s)
+  pub opens-complete : (s : List ℕ) → Open limit s → T (opens limit s)
   opens-complete s (in-header k p) = header-complete k s p
-  opens-complete s (in-length k b e) = rw (e, opens-header most k (b ∷ [])) tt
+  opens-complete s (in-length k b e) = rw (e, opens-header limit k (b ∷ [])) tt
   opens-complete s (in-data k lo hi d n l e) =
       rw e (tail-complete k lo hi d n (tail k, rw (drop-of-length-le d l)))
   opens-complete s (in-tail k lo hi d t n l p e) =

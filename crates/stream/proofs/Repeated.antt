@@ -4,15 +4,15 @@ use Prim.Native.Nat.{ℕ}
 use lib.Dec.{T}
 use Rattle.stream.proofs.Scan.{reads, opens, wholes}
 
-module _ (most : ℕ) where
-  pub opens-once : T (opens most (0xF4 ∷ []))
+module _ (limit : ℕ) where
+  pub opens-once : T (opens limit (0xF4 ∷ []))
   unfolding opens reads
   opens-once = tt
 
-  pub not-whole : ¬ T (wholes most (0xF4 ∷ []))
+  pub not-whole : ¬ T (wholes limit (0xF4 ∷ []))
   unfolding wholes reads
   not-whole h = h
 
-  pub not-twice : ¬ T (opens most (0xF4 ∷ 0xF4 ∷ []))
+  pub not-twice : ¬ T (opens limit (0xF4 ∷ 0xF4 ∷ []))
   unfolding opens reads
   not-twice h = h

@@ -1,6 +1,6 @@
 -- The same by tests that compute. Read from the left, an open string is a whole frame that may be cut short anywhere:
 -- `cut` says whether it may.
---   behind cut w next s   s begins with the word w, and what is behind it passes `next`; where s ends within w, `cut`
+--   after cut w next s   s begins with the word w, and what is after it passes `next`; where s ends within w, `cut`
 --   reads cut most k s    s is a frame of the family k, or, if `cut`, the beginning of one
 --   opens, wholes         s is open; s is a whole frame: by the family that its first byte announces
 use mathlib.Core.List.{List, [], _∷_}
@@ -8,12 +8,12 @@ use mathlib.Core.Bool.{Bool, true, false, _&&_}
 use Prim.Native.Nat.{ℕ}
 use lib.Dec.{eqb}
 use lib.ListN.{drop}
-use Rattle.number.specs.Number.{little}
+use Rattle.wire.specs.Number.{little}
 use Rattle.wire.specs.Family.{header, tail, startingWith}
 use Rattle.wire.specs.declared.Kind.{Kind}
 use Rattle.wire.specs.declared.MaybeKind.{MaybeKind}
 use Rattle.wire.specs.declared.MaybeKind.the-variants.{Some, None}
-use Rattle.limit.specs.Length.{inRange}
+use Rattle.stream.specs.Length.{inRange}
 
 abbrev pub behind : Bool → List ℕ → (List ℕ → Bool) → List ℕ → Bool
 behind cut [] next s = next s
@@ -24,24 +24,24 @@ abbrev pub nothing : List ℕ → Bool
 nothing [] = true
 nothing (b ∷ s) = false
 
--- A length, that many data bytes, and the tail: of what is behind a header.
+-- A length, that many data bytes, and the tail: of what is after a header.
 abbrev pub readsLength : Bool → ℕ → Kind → List ℕ → Bool
-readsLength cut most k [] = cut
-readsLength cut most k (lo ∷ []) = cut
-readsLength cut most k (lo ∷ hi ∷ s) = inRange most (little (lo ∷ hi ∷ []))
+readsLength cut limit k [] = cut
+readsLength cut limit k (lo ∷ []) = cut
+readsLength cut limit k (lo ∷ hi ∷ s) = inRange limit (little (lo ∷ hi ∷ []))
     && behind cut (tail k) nothing (drop (little (lo ∷ hi ∷ [])) s)
 
 unfoldable pub reads : Bool → ℕ → Kind → List ℕ → Bool
-reads cut most k s = behind cut (header k) (readsLength cut most k) s
+reads cut limit k s = behind cut (header k) (readsLength cut limit k) s
 
 abbrev pub readsAs : Bool → ℕ → MaybeKind → List ℕ → Bool
-readsAs cut most (Some k) s = reads cut most k s
-readsAs cut most None s = false
+readsAs cut limit (Some k) s = reads cut limit k s
+readsAs cut limit None s = false
 
 unfoldable pub opens : ℕ → List ℕ → Bool
-opens most [] = true
-opens most (b ∷ s) = readsAs true most (startingWith b) (b ∷ s)
+opens limit [] = true
+opens limit (b ∷ s) = readsAs true limit (startingWith b) (b ∷ s)
 
 unfoldable pub wholes : ℕ → List ℕ → Bool
-wholes most [] = false
-wholes most (b ∷ s) = readsAs false most (startingWith b) (b ∷ s)
+wholes limit [] = false
+wholes limit (b ∷ s) = readsAs false limit (startingWith b) (b ∷ s)

@@ -8,14 +8,14 @@ use lib.Dec.{eqb}
 use borrow.Author.Tests.{eq-eqb, eqb-true}
 use lib.ListN.{length, getD, take, drop, length-drop, drop-of-length-le}
 use lib.Seq.{drop-at}
-use Rattle.number.specs.Number.{little}
+use Rattle.wire.specs.Number.{little}
 use Rattle.wire.specs.Family.{header, tail, startingWith, orElse}
 use Rattle.wire.proofs.Families.{tail-length}
 use Rattle.wire.specs.declared.Kind.{Kind}
 use Rattle.wire.specs.declared.Kind.the-variants.{Report, Command}
 use Rattle.wire.specs.declared.MaybeKind.{MaybeKind}
 use Rattle.wire.specs.declared.MaybeKind.the-variants.{Some, None}
-use Rattle.limit.specs.Length.{inRange}
+use Rattle.stream.specs.Length.{inRange}
 use Rattle.stream.proofs.Scan.{behind, nothing, readsLength, reads, readsAs, opens, wholes}
 use Rattle.stream.proofs.Headers.{opens-header, wholes-header}
 
@@ -66,82 +66,82 @@ starting-sound b k e = go (eqb b 0xF4) refl (eqb b 0xFD) refl e
     go false p true q e = let z : Command ≡ k = cc in rw (← z) (eqb-true b 0xFD q)
     go false p false q e = let z : _≡_ {A = ℕ} 0 1 = cc in absurd (omega arith)
 
-module _ (most : ℕ) where
+module _ (limit : ℕ) where
   -- With nothing before it: a byte begins a frame exactly if it is a header's first, F4 or FD.
-  first-opens : (k : Kind) → opens most (getD (header k) 0 0 ∷ []) ≡ true
+  first-opens : (k : Kind) → opens limit (getD (header k) 0 0 ∷ []) ≡ true
   unfolding opens reads
   first-opens Report = refl
   first-opens Command = refl
 
-  pub start-opens : (b : ℕ) (k : Kind) → startingWith b ≡ Some k → opens most (b ∷ []) ≡ true
+  pub start-opens : (b : ℕ) (k : Kind) → startingWith b ≡ Some k → opens limit (b ∷ []) ≡ true
   start-opens b k e = rw (starting-sound b k e) (first-opens k)
 
-  pub start-strays : (b : ℕ) → startingWith b ≡ None → opens most (b ∷ []) ≡ false
+  pub start-strays : (b : ℕ) → startingWith b ≡ None → opens limit (b ∷ []) ≡ false
   unfolding opens
   start-strays b e = rw e
 
-  one-missing : (o : MaybeKind) (b : ℕ) → readsAs false most o (b ∷ []) ≡ false
+  one-missing : (o : MaybeKind) (b : ℕ) → readsAs false limit o (b ∷ []) ≡ false
   unfolding reads
   one-missing (Some Report) b = and-false (eqb b 0xF4)
   one-missing (Some Command) b = and-false (eqb b 0xFD)
   one-missing None b = refl
 
-  pub start-not-whole : (b : ℕ) → wholes most (b ∷ []) ≡ false
+  pub start-not-whole : (b : ℕ) → wholes limit (b ∷ []) ≡ false
   unfolding wholes
   start-not-whole b = one-missing (startingWith b) b
 
   -- Within a header: the byte must be the header's next.
   pub header-opens : (k : Kind) (m b : ℕ) → m < 3
-      → opens most (take (suc m) (header k) ++ (b ∷ [])) ≡ eqb b (getD (header k) (suc m) 0)
+      → opens limit (take (suc m) (header k) ++ (b ∷ [])) ≡ eqb b (getD (header k) (suc m) 0)
   unfolding opens reads
-  header-opens Report m b u = next-opens (header Report) (readsLength true most Report) (suc m) b (omega arith) refl
-  header-opens Command m b u = next-opens (header Command) (readsLength true most Command) (suc m) b (omega arith) refl
+  header-opens Report m b u = next-opens (header Report) (readsLength true limit Report) (suc m) b (omega arith) refl
+  header-opens Command m b u = next-opens (header Command) (readsLength true limit Command) (suc m) b (omega arith) refl
 
-  pub header-not-whole : (k : Kind) (m b : ℕ) → m < 3 → wholes most (take (suc m) (header k) ++ (b ∷ [])) ≡ false
+  pub header-not-whole : (k : Kind) (m b : ℕ) → m < 3 → wholes limit (take (suc m) (header k) ++ (b ∷ [])) ≡ false
   unfolding wholes reads
   header-not-whole Report m b u =
-      next-missing (header Report) (readsLength false most Report) (suc m) b (omega arith) (λ z. refl)
+      next-missing (header Report) (readsLength false limit Report) (suc m) b (omega arith) (λ z. refl)
   header-not-whole Command m b u =
-      next-missing (header Command) (readsLength false most Command) (suc m) b (omega arith) (λ z. refl)
+      next-missing (header Command) (readsLength false limit Command) (suc m) b (omega arith) (λ z. refl)
 
-  -- Behind a header: any byte, and then one that makes a length in range.
-  pub length-opens : (k : Kind) (b : ℕ) → opens most (header k ++ (b ∷ [])) ≡ true
-  length-opens k b = opens-header most k (b ∷ [])
+  -- After a header: any byte, and then one that makes a length in range.
+  pub length-opens : (k : Kind) (b : ℕ) → opens limit (header k ++ (b ∷ [])) ≡ true
+  length-opens k b = opens-header limit k (b ∷ [])
 
-  pub length-not-whole : (k : Kind) (b : ℕ) → wholes most (header k ++ (b ∷ [])) ≡ false
-  length-not-whole k b = wholes-header most k (b ∷ [])
+  pub length-not-whole : (k : Kind) (b : ℕ) → wholes limit (header k ++ (b ∷ [])) ≡ false
+  length-not-whole k b = wholes-header limit k (b ∷ [])
 
-  -- Behind a length: data bytes, at most as many as it says; then all of them and a part of the tail.
+  -- After a length: data bytes, at most as many as it says; then all of them and a part of the tail.
   module _ (k : Kind) (lo hi : ℕ) (d : List ℕ) where
     pub data-opens : length d ≤ little (lo ∷ hi ∷ [])
-        → opens most (header k ++ (lo ∷ hi ∷ d)) ≡ inRange most (little (lo ∷ hi ∷ []))
+        → opens limit (header k ++ (lo ∷ hi ∷ d)) ≡ inRange limit (little (lo ∷ hi ∷ []))
     data-opens l =
-        opens-header most k (lo ∷ hi ∷ d)
-        ∙ rw (drop-of-length-le d l, word-cut (tail k) nothing refl) (and-true (inRange most (little (lo ∷ hi ∷ []))))
+        opens-header limit k (lo ∷ hi ∷ d)
+        ∙ rw (drop-of-length-le d l, word-cut (tail k) nothing refl) (and-true (inRange limit (little (lo ∷ hi ∷ []))))
 
-    pub data-not-whole : length d ≤ little (lo ∷ hi ∷ []) → wholes most (header k ++ (lo ∷ hi ∷ d)) ≡ false
+    pub data-not-whole : length d ≤ little (lo ∷ hi ∷ []) → wholes limit (header k ++ (lo ∷ hi ∷ d)) ≡ false
     data-not-whole l =
-        wholes-header most k (lo ∷ hi ∷ d)
+        wholes-header limit k (lo ∷ hi ∷ d)
         ∙ rw (drop-of-length-le d l, word-missing (tail k) nothing (λ z. absurd (omega (arith, tail-length k))))
-        (and-false (inRange most (little (lo ∷ hi ∷ []))))
+        (and-false (inRange limit (little (lo ∷ hi ∷ []))))
 
-    module _ (l : length d ≡ little (lo ∷ hi ∷ [])) (r : inRange most (little (lo ∷ hi ∷ [])) ≡ true) where
-      -- What is behind all the data bytes is read as the tail.
+    module _ (l : length d ≡ little (lo ∷ hi ∷ [])) (r : inRange limit (little (lo ∷ hi ∷ [])) ≡ true) where
+      -- What is after all the data bytes is read as the tail.
       tail-read : (cut : Bool) (t : List ℕ)
-          → readsLength cut most k (lo ∷ hi ∷ (d ++ t)) ≡ behind cut (tail k) nothing t
+          → readsLength cut limit k (lo ∷ hi ∷ (d ++ t)) ≡ behind cut (tail k) nothing t
       tail-read cut t = rw (drop-at d t (little (lo ∷ hi ∷ [])) l, r)
 
       pub tail-opens : (m b : ℕ) → m < 4
-          → opens most (header k ++ (lo ∷ hi ∷ (d ++ (take m (tail k) ++ (b ∷ []))))) ≡ eqb b (getD (tail k) m 0)
+          → opens limit (header k ++ (lo ∷ hi ∷ (d ++ (take m (tail k) ++ (b ∷ []))))) ≡ eqb b (getD (tail k) m 0)
       tail-opens m b u =
-          opens-header most k (lo ∷ hi ∷ (d ++ (take m (tail k) ++ (b ∷ []))))
+          opens-header limit k (lo ∷ hi ∷ (d ++ (take m (tail k) ++ (b ∷ []))))
           ∙ tail-read true (take m (tail k) ++ (b ∷ []))
           ∙ next-opens (tail k) nothing m b (omega (arith, tail-length k)) refl
 
       pub tail-not-whole : (m b : ℕ) → m < 3
-          → wholes most (header k ++ (lo ∷ hi ∷ (d ++ (take m (tail k) ++ (b ∷ []))))) ≡ false
+          → wholes limit (header k ++ (lo ∷ hi ∷ (d ++ (take m (tail k) ++ (b ∷ []))))) ≡ false
       tail-not-whole m b u =
-          wholes-header most k (lo ∷ hi ∷ (d ++ (take m (tail k) ++ (b ∷ []))))
+          wholes-header limit k (lo ∷ hi ∷ (d ++ (take m (tail k) ++ (b ∷ []))))
           ∙ tail-read false (take m (tail k) ++ (b ∷ []))
           ∙ next-missing (tail k) nothing m b (omega (arith, tail-length k))
           (λ z. absurd (omega (arith, tail-length k)))
@@ -150,5 +150,5 @@ module _ (most : ℕ) where
       tail-complete Report = refl
       tail-complete Command = refl
 
-      pub tail-whole : wholes most (header k ++ (lo ∷ hi ∷ (d ++ tail k))) ≡ true
-      tail-whole = wholes-header most k (lo ∷ hi ∷ (d ++ tail k)) ∙ tail-read false (tail k) ∙ tail-complete k
+      pub tail-whole : wholes limit (header k ++ (lo ∷ hi ∷ (d ++ tail k))) ≡ true
+      tail-whole = wholes-header limit k (lo ∷ hi ∷ (d ++ tail k)) ∙ tail-read false (tail k) ∙ tail-complete k

@@ -6,24 +6,24 @@ use Prim.Native.Nat.{ℕ, _≤_}
 use lib.Dec.{T}
 use lib.ListN.{length, take, drop, take-append-drop}
 use lib.Seq.{length-take-le, drop-at}
-use Rattle.number.specs.Number.{little}
+use Rattle.wire.specs.Number.{little}
 use Rattle.wire.specs.Family.{header, tail, startingWith}
 use Rattle.wire.specs.declared.Kind.{Kind}
 use Rattle.wire.specs.declared.Kind.the-variants.{Report, Command}
 use Rattle.wire.specs.declared.MaybeKind.{MaybeKind}
 use Rattle.wire.specs.declared.MaybeKind.the-variants.{Some, None}
 use Rattle.stream.specs.Open.{Whole}
-use Rattle.limit.specs.Length.{InRange, inRange}
+use Rattle.stream.specs.Length.{InRange, inRange}
 use Rattle.stream.proofs.Scan.{behind, nothing, readsLength, reads, readsAs, wholes}
 use Rattle.stream.proofs.Laws.{both-right, tail-room}
 use Rattle.stream.proofs.Headers.{wholes-header}
 use Rattle.stream.proofs.Words.{both-left, both, whole-sound, nothing-sound}
 use Rattle.stream.proofs.Words.{range-sound, range-complete}
 
-module _ (most : ℕ) (k : Kind) where
-  -- A complete tail stands behind all the data bytes.
-  frame-sound : (lo hi : ℕ) (r : List ℕ) → InRange most (little (lo ∷ hi ∷ []))
-      → T (behind false (tail k) nothing (drop (little (lo ∷ hi ∷ [])) r)) → Whole most (header k ++ (lo ∷ hi ∷ r))
+module _ (limit : ℕ) (k : Kind) where
+  -- A complete tail stands after all the data bytes.
+  frame-sound : (lo hi : ℕ) (r : List ℕ) → InRange limit (little (lo ∷ hi ∷ []))
+      → T (behind false (tail k) nothing (drop (little (lo ∷ hi ∷ [])) r)) → Whole limit (header k ++ (lo ∷ hi ∷ r))
   frame-sound lo hi r n h =
       let m : ℕ = little (lo ∷ hi ∷ []) in
       let p = whole-sound (tail k) nothing (drop m r) h in
@@ -39,38 +39,40 @@ module _ (most : ℕ) (k : Kind) where
         spelled = rw (← e, take-append-drop m r);
       }
 
-  length-whole : (r : List ℕ) → T (readsLength false most k r) → Whole most (header k ++ r)
+  length-whole : (r : List ℕ) → T (readsLength false limit k r) → Whole limit (header k ++ r)
   length-whole [] h = absurd h
   length-whole (lo ∷ []) h = absurd h
   length-whole (lo ∷ hi ∷ r) h =
       let n : ℕ = little (lo ∷ hi ∷ []) in
-      frame-sound lo hi r (range-sound most n (both-left (inRange most n) (behind false (tail k) nothing (drop n r)) h))
-      (both-right (inRange most n) (behind false (tail k) nothing (drop n r)) h)
+      frame-sound lo hi r
+      (range-sound limit n (both-left (inRange limit n) (behind false (tail k) nothing (drop n r)) h))
+      (both-right (inRange limit n) (behind false (tail k) nothing (drop n r)) h)
 
-  reads-whole : (s : List ℕ) → T (reads false most k s) → Whole most s
+  reads-whole : (s : List ℕ) → T (reads false limit k s) → Whole limit s
   unfolding reads
   reads-whole s h =
-      let p = whole-sound (header k) (readsLength false most k) s h in
+      let p = whole-sound (header k) (readsLength false limit k) s h in
       rw (p .1) (length-whole (p .0) (p .2))
 
-module _ (most : ℕ) where
-  as-whole : (o : MaybeKind) (s : List ℕ) → T (readsAs false most o s) → Whole most s
-  as-whole (Some k) s h = reads-whole most k s h
+module _ (limit : ℕ) where
+  as-whole : (o : MaybeKind) (s : List ℕ) → T (readsAs false limit o s) → Whole limit s
+  as-whole (Some k) s h = reads-whole limit k s h
   as-whole None s h = absurd h
 
-  pub wholes-sound : (s : List ℕ) → T (wholes most s) → Whole most s
+  pub wholes-sound : (s : List ℕ) → T (wholes limit s) → Whole limit s
   unfolding wholes
   wholes-sound [] h = absurd h
   wholes-sound (b ∷ s) h = as-whole (startingWith b) (b ∷ s) h
 
-  pub wholes-complete : (s : List ℕ) → Whole most s → T (wholes most s)
+  pub wholes-complete : (s : List ℕ) → Whole limit s → T (wholes limit s)
   wholes-complete s w =
       let k = w .kind in
       let m : ℕ = little (w .lo ∷ w .hi ∷ []) in
       let r : List ℕ = w .held ++ tail k in
       let e : behind false (tail k) nothing (drop m r) ≡ true = whole-tail k (w .held) m (w .all-there) in
-      rw (w .spelled, wholes-header most k (w .lo ∷ w .hi ∷ r))
-      (both (inRange most m) (behind false (tail k) nothing (drop m r)) (range-complete most m (w .in-range)) (rw e tt))
+      rw (w .spelled, wholes-header limit k (w .lo ∷ w .hi ∷ r))
+      (both (inRange limit m) (behind false (tail k) nothing (drop m r)) (range-complete limit m (w .in-range))
+      (rw e tt))
     where
       complete-tail : (k : Kind) → behind false (tail k) nothing (tail k) ≡ true
       complete-tail Report = refl

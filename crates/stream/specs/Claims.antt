@@ -1,4 +1,4 @@
--- The claims about the link's stream, in reading order, each for every largest length `most`. src/lib.rt pins each of
+-- The claims about the link's stream, in reading order, each for every largest length `limit`. src/lib.rt pins each of
 -- them in a contract.
 use mathlib.Core.Path.{_≡_}
 use mathlib.Core.Logic.{_≢_, _↔_}
@@ -7,7 +7,7 @@ use mathlib.Core.Bool.{true}
 use Prim.Native.Nat.{ℕ, suc, _+_, _-_, _≤_, _<_}
 use lib.ListN.{length, getD, take, replicate}
 use Rattle.refusal.specs.Check.{Passes}
-use Rattle.number.specs.Number.{little}
+use Rattle.wire.specs.Number.{little}
 use Rattle.wire.specs.Family.{header, tail, framed}
 use Rattle.wire.specs.declared.Kind.{Kind}
 use Rattle.frame.specs.Frame.{bodyChecks, decoded}
@@ -15,92 +15,92 @@ use Rattle.framing.specs.Piece.{Piece, broken, spelled}
 use Rattle.framing.specs.Division.{Division, Divided, EndsAt, finished, cut}
 use Rattle.framing.specs.Tally.{resynced, lost, framed as inFrames, waiting, sum}
 use Rattle.engine.specs.Bytes.{Bytes}
-use Rattle.limit.specs.Length.{InRange}
+use Rattle.stream.specs.Length.{InRange}
 use Rattle.stream.specs.Open.{Open, Whole}
 use Rattle.stream.specs.Deliver.{Answer, decodes, payloadOf, delivered, Counter, adds}
 
 -- A whole frame of bytes is what framing its data gives.
 unfoldable pub WholeFramed : Type 0
-WholeFramed = (most : ℕ) (s : List ℕ) → Bytes s → Whole most s
-    → (k : Kind) × (d : List ℕ) × InRange most (length d) × (s ≡ framed k d)
+WholeFramed = (limit : ℕ) (s : List ℕ) → Bytes s → Whole limit s
+    → (k : Kind) × (d : List ℕ) × InRange limit (length d) × (s ≡ framed k d)
 
 -- A byte is no open string exactly if it is "neither F4 nor FD".
 unfoldable pub StrayBytes : Type 0
-StrayBytes = (most b : ℕ) → (¬ Open most (b ∷ [])) ↔ (b ≢ 0xF4) × (b ≢ 0xFD)
+StrayBytes = (limit b : ℕ) → (¬ Open limit (b ∷ [])) ↔ (b ≢ 0xF4) × (b ≢ 0xFD)
 
 -- A division over the link's strings.
 abbrev pub Divides : ℕ → List ℕ → List Piece → Type 0
-Divides most s ps = Division (Open most) (Whole most) s ps
+Divides limit s ps = Division (Open limit) (Whole limit) s ps
 
 -- Every string has a division, and "any two divisions of a stretch have the same pieces in the same places".
 unfoldable pub DividesOnce : Type 0
-DividesOnce = (most : ℕ) (s : List ℕ) → Divided (Open most) (Whole most) s
+DividesOnce = (limit : ℕ) (s : List ℕ) → Divided (Open limit) (Whole limit) s
 
 -- The pieces, joined, are the string.
 unfoldable pub DivisionSpelled : Type 0
-DivisionSpelled = (most : ℕ) (s : List ℕ) (ps : List Piece) → Divides most s ps → spelled ps ≡ s
+DivisionSpelled = (limit : ℕ) (s : List ℕ) (ps : List Piece) → Divides limit s ps → spelled ps ≡ s
 
 -- Each byte is dropped, or in the unfinished end, or in a whole frame.
 unfoldable pub DivisionLength : Type 0
-DivisionLength = (most : ℕ) (s : List ℕ) (ps : List Piece) → Divides most s ps
+DivisionLength = (limit : ℕ) (s : List ℕ) (ps : List Piece) → Divides limit s ps
     → length s ≡ sum lost ps + sum waiting ps + sum inFrames ps
 
 -- What is unfinished may become a frame, and is none yet.
 unfoldable pub UnfinishedOpen : Type 0
-UnfinishedOpen = (most : ℕ) (s : List ℕ) (ps : List Piece) → Divides most s ps
-    → Open most (cut ps) × (¬ Whole most (cut ps))
+UnfinishedOpen = (limit : ℕ) (s : List ℕ) (ps : List Piece) → Divides limit s ps
+    → Open limit (cut ps) × (¬ Whole limit (cut ps))
 
 -- Bytes that follow change no finished piece: a division of s ++ t begins with the finished pieces of s, and goes on as
 -- that of the unfinished end of s and t.
 unfoldable pub DivisionAppend : Type 0
-DivisionAppend = (most : ℕ) (s t : List ℕ) (ps qs : List Piece) → Divides most s ps → Divides most (s ++ t) qs
-    → (rs : List Piece) × (qs ≡ finished ps ++ rs) × Divides most (cut ps ++ t) rs
+DivisionAppend = (limit : ℕ) (s t : List ℕ) (ps qs : List Piece) → Divides limit s ps → Divides limit (s ++ t) qs
+    → (rs : List Piece) × (qs ≡ finished ps ++ rs) × Divides limit (cut ps ++ t) rs
 
 -- And every counter's total over s ++ t is that over s, and that over the unfinished end of s and t.
 unfoldable pub TotalAppend : Type 0
-TotalAppend = (most : ℕ) (k : Counter) (s t : List ℕ) (ps qs rs : List Piece)
-    → Divides most s ps → Divides most (s ++ t) qs → Divides most (cut ps ++ t) rs
+TotalAppend = (limit : ℕ) (k : Counter) (s t : List ℕ) (ps qs rs : List Piece)
+    → Divides limit s ps → Divides limit (s ++ t) qs → Divides limit (cut ps ++ t) rs
     → sum (adds k) qs ≡ sum (adds k) ps + sum (adds k) rs
 
 -- Which frame ends with a byte does not depend on what follows.
 unfoldable pub EndsForGood : Type 0
-EndsForGood = (most : ℕ) (s : List ℕ) (c : ℕ) (t u : List ℕ) (ps qs : List Piece)
-    → Divides most (s ++ (c ∷ t)) ps → Divides most (s ++ (c ∷ u)) qs → (f : List ℕ)
+EndsForGood = (limit : ℕ) (s : List ℕ) (c : ℕ) (t u : List ℕ) (ps qs : List Piece)
+    → Divides limit (s ++ (c ∷ t)) ps → Divides limit (s ++ (c ∷ u)) qs → (f : List ℕ)
     → EndsAt ps (length s + 1) f → EndsAt qs (length s + 1) f
 
 -- Of n bytes at most n - 1 starts break, and none of none; of n bytes F4 exactly so many.
 unfoldable pub ResyncsBound : Type 0
-ResyncsBound = (most : ℕ) (s : List ℕ) (ps : List Piece) → Divides most s ps → sum resynced ps ≤ length s - 1
+ResyncsBound = (limit : ℕ) (s : List ℕ) (ps : List Piece) → Divides limit s ps → sum resynced ps ≤ length s - 1
 
 unfoldable pub ResyncsReached : Type 0
-ResyncsReached = (most m : ℕ) (ps : List Piece) → Divides most (replicate (suc m) 0xF4) ps → sum resynced ps ≡ m
+ResyncsReached = (limit m : ℕ) (ps : List Piece) → Divides limit (replicate (suc m) 0xF4) ps → sum resynced ps ≡ m
 
 -- Document 01's first trap: "The second byte of a bad length is dropped with the header. It must be tried as a new
 -- start." The header and the first length byte are a broken start; the second is the first byte of what is divided
 -- next.
 unfoldable pub BadLength : Type 0
-BadLength = (most : ℕ) (k : Kind) (lo hi : ℕ) (t : List ℕ) (ps : List Piece)
-    → (InRange most (little (lo ∷ hi ∷ [])) → ⊥)
-    → Divides most (hi ∷ t) ps
-    → Divides most ((header k ++ (lo ∷ [])) ++ (hi ∷ t)) (broken (header k ++ (lo ∷ [])) ∷ ps)
+BadLength = (limit : ℕ) (k : Kind) (lo hi : ℕ) (t : List ℕ) (ps : List Piece)
+    → (InRange limit (little (lo ∷ hi ∷ [])) → ⊥)
+    → Divides limit (hi ∷ t) ps
+    → Divides limit ((header k ++ (lo ∷ [])) ++ (hi ∷ t)) (broken (header k ++ (lo ∷ [])) ∷ ps)
 
 -- Its second: "After a broken tail the whole span is searched again. Only the offending byte is." All that came before
 -- the offending byte c is a broken start, whatever the data hold.
 unfoldable pub BrokenTail : Type 0
-BrokenTail = (most : ℕ) (k : Kind) (lo hi : ℕ) (d : List ℕ) (m c : ℕ) (t : List ℕ) (ps : List Piece)
-    → InRange most (little (lo ∷ hi ∷ [])) → length d ≡ little (lo ∷ hi ∷ []) → m < 4 → c ≢ getD (tail k) m 0
-    → Divides most (c ∷ t) ps
-    → Divides most ((header k ++ (lo ∷ hi ∷ (d ++ take m (tail k)))) ++ (c ∷ t))
+BrokenTail = (limit : ℕ) (k : Kind) (lo hi : ℕ) (d : List ℕ) (m c : ℕ) (t : List ℕ) (ps : List Piece)
+    → InRange limit (little (lo ∷ hi ∷ [])) → length d ≡ little (lo ∷ hi ∷ []) → m < 4 → c ≢ getD (tail k) m 0
+    → Divides limit (c ∷ t) ps
+    → Divides limit ((header k ++ (lo ∷ hi ∷ (d ++ take m (tail k)))) ++ (c ∷ t))
     (broken (header k ++ (lo ∷ hi ∷ (d ++ take m (tail k)))) ∷ ps)
 
 -- "A whole frame decodes if its data pass R1 to R8 (report) or A1 and A2 (command)", and only then.
 unfoldable pub DecodesWhole : Type 0
-DecodesWhole = (most : ℕ) (s : List ℕ) (w : Whole most s) → Bytes s
+DecodesWhole = (limit : ℕ) (s : List ℕ) (w : Whole limit s) → Bytes s
     → (decodes s ≡ true) ↔ Passes (bodyChecks (w .kind)) (w .held)
 
 -- It delivers what its data are read as, a payload starting at byte 4 of the buffer, which the data begin, and with the
 -- bytes that stand there.
 unfoldable pub DeliversWhole : Type 0
-DeliversWhole = (most : ℕ) (s : List ℕ) (w : Whole most s) (r : List ℕ) → Bytes s
+DeliversWhole = (limit : ℕ) (s : List ℕ) (w : Whole limit s) (r : List ℕ) → Bytes s
     → let x = decoded 4 (w .kind) (w .held) .frame in
     _≡_ {A = Answer} (delivered s) (x, payloadOf x (w .held ++ r))

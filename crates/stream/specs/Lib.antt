@@ -6,3 +6,4 @@ pub mod Deliver
 pub mod Protocol
 -- The claims.
 pub mod Claims
+pub mod Length

@@ -1,6 +1,9 @@
 // The stream of the LD2410's link: which strings are open and which are whole frames, what a whole frame delivers, and
-// what the counters count. It is definitions and laws, and has no code. Each function here is empty: its contract pins
-// claims of specs/Claims.antt.
+// what the counters count. It is definitions and laws; its code is the test of a length. Each function of this file is
+// empty and never called: its contract pins claims of specs/Claims.antt.
+mod limit;
+
+pub use limit::in_range;
 ghost use Rattle.stream.specs.Claims.{WholeFramed, StrayBytes};
 ghost use Rattle.stream.specs.Claims.{DividesOnce, DivisionSpelled, DivisionLength, UnfinishedOpen};
 ghost use Rattle.stream.specs.Claims.{DivisionAppend, TotalAppend, EndsForGood, ResyncsBound, ResyncsReached};
@@ -8,14 +11,14 @@ ghost use Rattle.stream.specs.Claims.{BadLength, BrokenTail};
 ghost use Rattle.stream.specs.Claims.{DecodesWhole, DeliversWhole};
 
 // A whole frame is what framing its data gives; a stray byte is neither of two.
-pub fn framing_claims()
+fn framing_claims()
     ensures framed { λ _. ⌜ WholeFramed ⌝ }
     ensures stray { λ _. ⌜ StrayBytes ⌝ }
 {}
 
 // `once`, `spelled`, `length`, `unfinished`: what a division is. `append`, `total`, `ends`: what more bytes do to it.
 // `bound`, `reached`: how often a stream can break, and that some break so often.
-pub fn division_claims()
+fn division_claims()
     ensures once { λ _. ⌜ DividesOnce ⌝ }
     ensures spelled { λ _. ⌜ DivisionSpelled ⌝ }
     ensures length { λ _. ⌜ DivisionLength ⌝ }
@@ -28,13 +31,13 @@ pub fn division_claims()
 {}
 
 // Where a broken start ends: document 01's traps of the stream.
-pub fn trap_claims()
+fn trap_claims()
     ensures bad_length { λ _. ⌜ BadLength ⌝ }
     ensures broken_tail { λ _. ⌜ BrokenTail ⌝ }
 {}
 
 // A whole frame decodes, and delivers, as its data do.
-pub fn delivery_claims()
+fn delivery_claims()
     ensures decodes { λ _. ⌜ DecodesWhole ⌝ }
     ensures delivers { λ _. ⌜ DeliversWhole ⌝ }
 {}

@@ -5,8 +5,8 @@ use mathlib.Core.Bool.{Bool, true, false}
 use Prim.Native.Nat.{ℕ}
 use native.Mathlib.Omega.{arith}
 use lib.ListN.{length}
-use Rattle.byte_string.specs.Equal.{sameBytes}
-use Rattle.byte_string.proofs.Equality.{same-sound}
+use Rattle.wire.specs.Equal.{sameBytes}
+use Rattle.wire.proofs.Equality.{same-sound}
 use Rattle.wire.specs.Family.{header, tail, orElse, headerOf}
 use Rattle.wire.specs.declared.Kind.{Kind}
 use Rattle.wire.specs.declared.Kind.the-variants.{Report, Command}

@@ -8,8 +8,8 @@ use mathlib.Core.Bool.{Bool, true, false}
 use Prim.Native.Nat.{ℕ}
 use lib.Dec.{eqb}
 use lib.ListN.{length}
-use Rattle.byte_string.specs.Equal.{sameBytes}
-use Rattle.number.specs.Number.{leBytes}
+use Rattle.wire.specs.Equal.{sameBytes}
+use Rattle.wire.specs.Number.{leBytes}
 use Rattle.wire.specs.declared.Kind.{Kind}
 use Rattle.wire.specs.declared.Kind.the-variants.{Report, Command}
 use Rattle.wire.specs.declared.MaybeKind.{MaybeKind}

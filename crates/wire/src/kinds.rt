@@ -1,7 +1,7 @@
 // The two frame families: their headers and tails, and the family that bytes announce.
 use super::Kind;
 use super::MaybeKind;
-use byte_string::same;
+use crate::byte_string::same;
 ghost use mathlib.Core.Path.{_≡_};
 ghost use Rattle.wire.specs.Family.{header, tail, startingWith, headerOf};
 

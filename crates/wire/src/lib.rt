@@ -1,13 +1,24 @@
 // What both directions of the LD2410's serial link share: its sizes, the two frame families, the command words, and a
 // value for each gate.
+mod byte_string;
 mod kinds;
+mod number;
 pub mod word;
 
-use byte_string::copy_prefix;
-use number::least;
+pub use byte_string::copy_at;
+pub use byte_string::copy_prefix;
+pub use byte_string::same;
+pub use number::MaybeU8;
+pub use number::MaybeU16;
+pub use number::MaybeU32;
+pub use number::bump;
+pub use number::byte_at;
+pub use number::le16;
+pub use number::le32;
+pub use number::least;
 ghost use mathlib.Core.Path.{_≡_};
-ghost use Rattle.byte_string.specs.Prefix.{padded};
-ghost use Rattle.wire.specs.Gate.{gateSlice};
+ghost use Rattle.wire.specs.Prefix.{padded};
+ghost use Rattle.wire.specs.Gate.{gateValues};
 
 // Number of distance gates the module reports: gates 0 to 8.
 pub const GATES: usize = 9;
@@ -40,17 +51,17 @@ pub enum MaybeKind {
 }
 
 // A value for each gate, of which the first `count` are valid.
-pub struct GateSlice {
+pub struct GateValues {
     pub bytes: [u8; GATES],
     pub count: usize,
 }
 
-impl GateSlice {
+impl GateValues {
     // The first `count` of the values, or all of them where there are fewer.
     pub fn new(bytes: [u8; GATES], count: usize) -> Self
-        ensures made { λ r. ⌜ r ≡ gateSlice bytes count ⌝ }
+        ensures made { λ r. ⌜ r ≡ gateValues bytes count ⌝ }
     {
-        GateSlice {
+        GateValues {
             bytes,
             count: least(count, GATES),
         }

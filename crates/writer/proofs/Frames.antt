@@ -1,17 +1,17 @@
--- A frame put into a buffer: its length, its four parts put one behind the other, and the three answers.
+-- A frame put into a buffer: its length, its four parts put one after the other, and the three answers.
 use mathlib.Core.Path.{_≡_, refl, sym, ap, _∙_}
 use mathlib.Core.List.{List, [], _++_, append-assoc}
 use Prim.Native.Nat.{ℕ, _+_, _≤_, _<_}
 use native.Mathlib.Omega.{arith}
 use lib.ListN.{length, length-append}
 use borrow.Author.Tests.{le-leb, lt-leb}
-use Rattle.number.specs.Number.{leBytes}
+use Rattle.wire.specs.Number.{leBytes}
 use Rattle.wire.specs.Family.{header, tail, framed}
 use Rattle.wire.specs.declared.Kind.{Kind}
 use Rattle.wire.specs.declared.Kind.the-variants.{Report, Command}
 use Rattle.refusal.specs.declared.Error.the-variants.{Unrepresentable, BufferTooSmall}
 use Rattle.wire.proofs.Families.{header-length, tail-length}
-use Rattle.put.specs.Put.{putIn}
+use Rattle.writer.specs.Put.{putIn}
 use Rattle.writer.specs.Written.{written, framable, frameRefusal}
 use Rattle.writer.specs.declared.WriteResult.{WriteResult}
 use Rattle.writer.specs.declared.WriteResult.the-variants.{Ok, Err}

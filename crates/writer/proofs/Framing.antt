@@ -6,15 +6,15 @@ use Prim.Native.Nat.{ℕ, _+_, _≤_}
 use native.Mathlib.Omega.{arith}
 use lib.ListN.{length, take, drop, take-append-drop, length-take, length-drop}
 use lib.Seq.{drop-drop}
-use Rattle.number.specs.Bytes.{Bytes}
-use Rattle.number.specs.Number.{little, leBytes}
+use Rattle.wire.specs.Bytes.{Bytes}
+use Rattle.wire.specs.Number.{little, leBytes}
 use Rattle.wire.specs.Family.{header, tail, headerOf, framed}
 use Rattle.wire.specs.declared.Kind.{Kind}
 use Rattle.wire.specs.declared.MaybeKind.the-variants.{Some}
 use Rattle.wire.proofs.Families.{header-sound}
-use Rattle.put.proofs.Bytes.{bytes-take, bytes-drop, leBytes-little}
+use Rattle.writer.proofs.Bytes.{bytes-take, bytes-drop, leBytes-little}
 
--- The string s begins as a frame of the family k, says n in two bytes, and ends behind n more as the family does.
+-- The string s begins as a frame of the family k, says n in two bytes, and ends after n more as the family does.
 pub record Cut (k : Kind) (n : ℕ) (s : List ℕ) : Type 0 where
   pub begins : take 4 s ≡ header k
   pub says : take 2 (drop 4 s) ≡ leBytes 2 n

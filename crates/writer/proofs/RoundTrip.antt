@@ -1,4 +1,4 @@
--- A writer and a reader that agree on the frame of a value agree on every buffer: the one law behind the round trips of
+-- A writer and a reader that agree on the frame of a value agree on every buffer: the one law after the round trips of
 -- commands, reports and acknowledgements.
 use mathlib.Core.Path.{_≡_, refl, sym, _∙_}
 use mathlib.Core.Logic.{_↔_}
@@ -7,7 +7,7 @@ use mathlib.Core.Bool.{Bool, true, false}
 use Prim.Native.Nat.{ℕ, _≤_}
 use native.Mathlib.Omega.{arith}
 use lib.ListN.{length, take}
-use Rattle.number.specs.Bytes.{Bytes}
+use Rattle.wire.specs.Bytes.{Bytes}
 use Rattle.refusal.specs.Refusal.{numberOf}
 use Rattle.refusal.specs.declared.Error.{Error}
 use Rattle.writer.specs.Written.{written, unless, numberOfWrite, WriteCauses}

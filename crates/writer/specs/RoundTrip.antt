@@ -10,7 +10,7 @@ use mathlib.Core.List.{List}
 use mathlib.Core.Option.{Option}
 use Prim.Native.Nat.{ℕ, _≤_}
 use lib.ListN.{length, take}
-use Rattle.number.specs.Bytes.{Bytes}
+use Rattle.wire.specs.Bytes.{Bytes}
 use Rattle.refusal.specs.declared.Error.{Error}
 use Rattle.writer.specs.Written.{written, answerOf, bufferAfter, numberOfWrite}
 use Rattle.writer.specs.declared.WriteResult.{WriteResult}

@@ -1,5 +1,5 @@
 -- What every writer of a frame answers, and the buffer that it leaves.
---   written out f             the buffer out with the frame f written: the frame, then the bytes that stood behind it
+--   written out f             the buffer out with the frame f written: the frame, then the bytes that stood after it
 --   unless b e                the refusal e, unless the test b holds
 --   refusalFor w f n          why f is not written into n bytes, if it is not: the refusal w of the value, if there is
 --                             one; else 4, with the bytes needed, where f is longer

@@ -1,6 +1,11 @@
 // A whole frame put into the caller's buffer, and what every writer of frames answers.
-use put::put;
-use put::put_u16;
+mod puts;
+
+pub use puts::Placed;
+pub use puts::put;
+pub use puts::put_record;
+pub use puts::put_u16;
+pub use puts::u16_bytes;
 use refusal::Error;
 use wire::FRAMING;
 use wire::Kind;
@@ -11,7 +16,7 @@ ghost use Rattle.wire.specs.Family.{framed};
 ghost use Rattle.writer.specs.Written.{answerOf, bufferAfter, frameRefusal, framable, WriteCauses};
 
 // Most data bytes that a frame's length can say.
-pub const MAX_LENGTH: usize = 65_535;
+const MAX_LENGTH: usize = 65_535;
 
 // What a writer answers: the bytes written, or the refusal.
 pub enum WriteResult {
@@ -20,7 +25,7 @@ pub enum WriteResult {
 }
 
 // Puts the frame of a family with the data at the front: header, length, data, tail. Refuses with 6 data that no length
-// can say, then with 4 a buffer shorter than the frame. Bytes behind the frame stay. It is public for the other crates
+// can say, then with 4 a buffer shorter than the frame. Bytes after the frame stay. It is public for the other crates
 // of the link alone: document 01's table does not have this 6, and no writer of the link frames so much.
 pub fn put_frame(out: &mut [u8], kind: Kind, data: &[u8]) -> WriteResult
     ensures told { λ r. ⌜ r ≡ answerOf (frameRefusal (now («data» .entry))) (framed kind (now («data» .entry)))

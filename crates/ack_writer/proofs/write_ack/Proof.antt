@@ -5,15 +5,12 @@ use native.Mathlib.Omega.{arith}
 use lib.Seq.{length-take-le}
 use borrow.Author.Needs.{needs}
 use borrow.Author.Tests.{not-true, not-false}
-use Rattle.put.proofs.Bytes.{bytes-all}
+use Rattle.writer.proofs.Bytes.{bytes-all}
 use Rattle.ack_writer.proofs.Filling.{data-filled}
 use Rattle.ack_writer.proofs.RoundTrip.{writable-sound}
 use Rattle.ack_writer.proofs.Answers.{ack-refused, ack-put}
 use Rattle.ack_writer.proofs.write_ack.Statement.{statement}
 use Rattle.ack_writer.proofs.write_ack.Tie as tie
-
-writable-requires : tie.Need-writable-requires
-writable-requires c κs = search needs
 
 returns : tie.Need-returns
 returns c =
@@ -23,32 +20,11 @@ returns c =
     (bytes-all (a .payload .now) (λ i. omega (arith, known .shared-slice-known .given i))) (a .out .now)
     (sym (c .before .writable .ensures) ∙ not-true _ (c .if1 .taken))
 
-slice-aggregate-put-u16 : tie.Need-slice-aggregate-put-u16
-slice-aggregate-put-u16 c = search needs
-
 add-put-u16 : tie.Need-add-put-u16
 add-put-u16 c =
     let test = c .before .before in
     let fit = writable-sound _ _ _ _ (sym (test .writable .ensures) ∙ not-false _ (c .before .if1 .left)) in
     record { fits = omega arith }
-
-put-u16-requires : tie.Need-put-u16-requires
-put-u16-requires c κs = search needs
-
-slice-aggregate-put-u16-2 : tie.Need-slice-aggregate-put-u16-2
-slice-aggregate-put-u16-2 c = search needs
-
-put-u16-requires-2 : tie.Need-put-u16-requires-2
-put-u16-requires-2 c κs = search needs
-
-slice-aggregate-put : tie.Need-slice-aggregate-put
-slice-aggregate-put c = search needs
-
-put-requires : tie.Need-put-requires
-put-requires c κs = search needs
-
-add-data : tie.Need-add-data
-add-data c = search needs
 
 array-share-prefix-data : tie.Need-array-share-prefix-data
 array-share-prefix-data c =
@@ -61,12 +37,6 @@ slice-aggregate-put-frame c =
     let left = c .before .before .before .before .before .before .before .before .before .before .before in
     let fit = writable-sound _ _ _ _ (sym (left .before .writable .ensures) ∙ not-false _ (left .if1 .left)) in
     sym (length-take-le _ _ (omega arith))
-
-put-frame-requires : tie.Need-put-frame-requires
-put-frame-requires c κs = search needs
-
-same-length : tie.Need-same-length
-same-length c = search needs
 
 returns-2 : tie.Need-returns-2
 returns-2 c =
@@ -88,18 +58,18 @@ pub write-ack-spec : {M : Type 1} → statement M
 write-ack-spec =
     tie.close
     (tie.spec
-    writable-requires
+    (λ c κs. search needs)
     returns
-    slice-aggregate-put-u16
+    (λ c. search needs)
     add-put-u16
-    put-u16-requires
-    slice-aggregate-put-u16-2
-    put-u16-requires-2
-    slice-aggregate-put
-    put-requires
-    add-data
+    (λ c κs. search needs)
+    (λ c. search needs)
+    (λ c κs. search needs)
+    (λ c. search needs)
+    (λ c κs. search needs)
+    (λ c. search needs)
     array-share-prefix-data
     slice-aggregate-put-frame
-    put-frame-requires
-    same-length
+    (λ c κs. search needs)
+    (λ c. search needs)
     returns-2)

@@ -5,15 +5,6 @@ use borrow.Author.Needs.{needs}
 use Rattle.command_reader.proofs.baud_for.Statement.{statement}
 use Rattle.command_reader.proofs.baud_for.Tie as tie
 
-from-index-requires : tie.Need-from-index-requires
-from-index-requires c κs = search needs
-
-enum-known-baud : tie.Need-enum-known-baud
-enum-known-baud c = search needs
-
-enum-told : tie.Need-enum-told
-enum-told c = search needs
-
 returns : tie.Need-returns
 unfolding baudFor
 returns c = rw (sym (c .before .before .from-index .ensures) ∙ c .enum-told .given .1)
@@ -24,4 +15,4 @@ returns-2 c = rw (sym (c .before .before .before .from-index .ensures) ∙ c .be
 
 pub baud-for-spec : {M : Type 1} → statement M
 baud-for-spec =
-    tie.close (tie.spec from-index-requires enum-known-baud enum-told returns returns-2)
+    tie.close (tie.spec (λ c κs. search needs) (λ c. search needs) (λ c. search needs) returns returns-2)

@@ -5,24 +5,6 @@ use borrow.Author.Needs.{needs}
 use Rattle.command_reader.proofs.candidate.Statement.{statement}
 use Rattle.command_reader.proofs.candidate.Tie as tie
 
-cast-t8 : tie.Need-cast-t8
-cast-t8 c = search needs
-
-cast-t10 : tie.Need-cast-t10
-cast-t10 c = search needs
-
-gate-for-requires : tie.Need-gate-for-requires
-gate-for-requires c κs = search needs
-
-cast-t13 : tie.Need-cast-t13
-cast-t13 c = search needs
-
-cast-t15 : tie.Need-cast-t15
-cast-t15 c = search needs
-
-baud-for-requires : tie.Need-baud-for-requires
-baud-for-requires c κs = search needs
-
 returns : tie.Need-returns
 unfolding candidate
 returns c = rw (c .match .keys1)
@@ -94,12 +76,12 @@ pub candidate-spec : {M : Type 1} → statement M
 candidate-spec =
     tie.close
     (tie.spec
-    cast-t8
-    cast-t10
-    gate-for-requires
-    cast-t13
-    cast-t15
-    baud-for-requires
+    (λ c. search needs)
+    (λ c. search needs)
+    (λ c κs. search needs)
+    (λ c. search needs)
+    (λ c. search needs)
+    (λ c κs. search needs)
     returns
     returns-2
     returns-3

@@ -5,9 +5,6 @@ use borrow.Author.Needs.{needs}
 use Rattle.command_reader.proofs.gate_for.Statement.{statement}
 use Rattle.command_reader.proofs.gate_for.Tie as tie
 
-cast-t5 : tie.Need-cast-t5
-cast-t5 c = search needs
-
 returns : tie.Need-returns
 unfolding gateFor
 returns c = rw (eq-eqb _ 0xFFFF (c .if1 .taken))
@@ -17,4 +14,4 @@ unfolding gateFor
 returns-2 c = rw (ne-eqb _ 0xFFFF (c .if1 .left))
 
 pub gate-for-spec : {M : Type 1} → statement M
-gate-for-spec = tie.close (tie.spec cast-t5 returns returns-2)
+gate-for-spec = tie.close (tie.spec (λ c. search needs) returns returns-2)

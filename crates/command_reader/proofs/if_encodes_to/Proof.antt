@@ -11,21 +11,9 @@ use borrow.Author.Needs.{needs}
 use Rattle.command_reader.proofs.if_encodes_to.Statement.{statement}
 use Rattle.command_reader.proofs.if_encodes_to.Tie as tie
 
-slice-aggregate-encode : tie.Need-slice-aggregate-encode
-slice-aggregate-encode c = search needs
-
-encode-requires : tie.Need-encode-requires
-encode-requires c κs = search needs
-
 -- The array that the command is encoded into.
 abbrev room : List ℕ
 room = replicate 30 0
-
-enum-known-n : tie.Need-enum-known-n
-enum-known-n c = search needs
-
-enum-told : tie.Need-enum-told
-enum-told c = search needs
 
 returns : tie.Need-returns
 returns c =
@@ -45,9 +33,6 @@ slice-aggregate-same c =
     let e = c .before .before .before .before .before .encode .ensures in
     let tried = c .before .before .before .before .before .before .before .before .args .command in
     sym (length-take-le _ _ (laid tried room _ _ (e .0, e .1 .0) _ (c .before .before .n .given .1) .inside))
-
-same-requires : tie.Need-same-requires
-same-requires c κs = search needs
 
 returns-2 : tie.Need-returns-2
 returns-2 c =
@@ -69,13 +54,13 @@ pub if-encodes-to-spec : {M : Type 1} → statement M
 if-encodes-to-spec =
     tie.close
     (tie.spec
-    slice-aggregate-encode
-    encode-requires
-    enum-known-n
-    enum-told
+    (λ c. search needs)
+    (λ c κs. search needs)
+    (λ c. search needs)
+    (λ c. search needs)
     returns
     array-share-prefix-frame
     slice-aggregate-same
-    same-requires
+    (λ c κs. search needs)
     returns-2
     returns-3)

@@ -17,17 +17,8 @@ shown : (s : List ℕ) (r : CommandResult) → ReadTo s r
     → (ReadTo s r) × (OneAnswer s × (ReadCauses s r × ((c : Command) → RoundTrip commands c)))
 shown s r h = (h, (one-answer s, (read-causes s h, commands-agree)))
 
-asks-requires : tie.Need-asks-requires
-asks-requires c κs = search needs
-
 returns : tie.Need-returns
 returns c = shown _ _ (read-unasked _ _ (c .before .asks .ensures) (not-true _ (c .if1 .taken)))
-
-candidate-in-requires : tie.Need-candidate-in-requires
-candidate-in-requires c κs = search needs
-
-if-encodes-to-requires : tie.Need-if-encodes-to-requires
-if-encodes-to-requires c κs = search needs
 
 returns-2 : tie.Need-returns-2
 returns-2 c =
@@ -36,4 +27,4 @@ returns-2 c =
 
 pub read-command-spec : {M : Type 1} → statement M
 read-command-spec =
-    tie.close (tie.spec asks-requires returns candidate-in-requires if-encodes-to-requires returns-2)
+    tie.close (tie.spec (λ c κs. search needs) returns (λ c κs. search needs) (λ c κs. search needs) returns-2)

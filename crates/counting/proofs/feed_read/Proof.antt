@@ -10,15 +10,6 @@ use Rattle.counting.proofs.Reading.{turned-by}
 use Rattle.counting.proofs.feed_read.Statement.{statement}
 use Rattle.counting.proofs.feed_read.Tie as tie
 
-count-requires : tie.Need-count-requires
-count-requires c κs = search needs
-
-slice-aggregate-feed-all : tie.Need-slice-aggregate-feed-all
-slice-aggregate-feed-all c = search needs
-
-feed-all-requires : tie.Need-feed-all-requires
-feed-all-requires c κs = search needs
-
 returns : tie.Need-returns
 returns c =
     let start = c .before .before .before .before in
@@ -28,4 +19,4 @@ returns c =
     (c .feed-all .ensures .0) (c .feed-all .ensures .1 .0)
 
 pub feed-read-spec : {M : Type 1} → statement M
-feed-read-spec = tie.close (tie.spec count-requires slice-aggregate-feed-all feed-all-requires returns)
+feed-read-spec = tie.close (tie.spec (λ c κs. search needs) (λ c. search needs) (λ c κs. search needs) returns)

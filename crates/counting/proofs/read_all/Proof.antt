@@ -15,7 +15,7 @@ Inv-loop fd at₀ turns₀ at turns = Reached fresh at × FromHere fresh
 abbrev μ-loop : tie.MeasureT-loop
 μ-loop fd at₀ turns₀ at turns = turns
 
--- Behind a turn: what it leaves is reached from a fresh parser, if what the loop held was.
+-- After a turn: what it leaves is reached from a fresh parser, if what the loop held was.
 turned : (c : tie.After-read-some Inv-loop μ-loop) → Reached fresh (c .read-some .result .parser)
 turned c = reached-on _ _ _ (c .before .before .loop .inv .0) (turned-reached _ _ (c .read-some .ensures))
 

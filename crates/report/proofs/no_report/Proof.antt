@@ -3,11 +3,8 @@ use borrow.Author.Needs.{needs}
 use Rattle.report.proofs.no_report.Statement.{statement}
 use Rattle.report.proofs.no_report.Tie as tie
 
-no-engineering-requires : tie.Need-no-engineering-requires
-no-engineering-requires c κs = search needs
-
 returns : tie.Need-returns
 returns c = rw (c .no-engineering .ensures)
 
 pub no-report-spec : {M : Type 1} → statement M
-no-report-spec = tie.close (tie.spec no-engineering-requires returns)
+no-report-spec = tie.close (tie.spec (λ c κs. search needs) returns)

@@ -7,10 +7,10 @@ use lib.ListN.{length, take}
 use lib.Seq.{length-take-le}
 use borrow.Author.Tests.{not-true, not-false}
 use borrow.Author.Needs.{needs}
-use Rattle.report_data.specs.Data.{reportData}
-use Rattle.writable.specs.Writable.{writable}
-use Rattle.report_data.proofs.Typed.{TypedReport, report-typed}
-use Rattle.report_data.proofs.Puts.{laid-flag, data-laid}
+use Rattle.report_writer.specs.Data.{reportData}
+use Rattle.report_writer.specs.Writable.{writable}
+use Rattle.report_writer.proofs.Typed.{TypedReport, report-typed}
+use Rattle.report_writer.proofs.Puts.{laid-flag, data-laid}
 use Rattle.report_writer.proofs.Answers.{answered-refused, answered-framed}
 use Rattle.report_writer.proofs.write_report.Statement.{statement}
 use Rattle.report_writer.proofs.write_report.Tie as tie
@@ -31,9 +31,6 @@ laid : (c : tie.Else1) → (c .before .before .lay .result .len ≤ length (c .b
     ≡ reportData (start c .args .report))
 laid c = data-laid (start c .args .report) _ (c .before .before .lay .ensures) (typed (start c)) (good c)
 
-lay-requires : tie.Need-lay-requires
-lay-requires c κs = search needs
-
 returns : tie.Need-returns
 returns c =
     let start = c .before .before .before .before in
@@ -47,12 +44,6 @@ array-share-prefix-data c = laid (c .before .before) .0
 slice-aggregate-put-frame : tie.Need-slice-aggregate-put-frame
 slice-aggregate-put-frame c = sym (length-take-le _ _ (laid (c .before .before .before) .0))
 
-put-frame-requires : tie.Need-put-frame-requires
-put-frame-requires c κs = search needs
-
-same-length : tie.Need-same-length
-same-length c = search needs
-
 returns-2 : tie.Need-returns-2
 returns-2 c =
     let past = c .before .before .before .before .before .before in
@@ -64,10 +55,10 @@ pub write-report-spec : {M : Type 1} → statement M
 write-report-spec =
     tie.close
     (tie.spec
-    lay-requires
+    (λ c κs. search needs)
     returns
     array-share-prefix-data
     slice-aggregate-put-frame
-    put-frame-requires
-    same-length
+    (λ c κs. search needs)
+    (λ c. search needs)
     returns-2)

@@ -31,16 +31,16 @@ holds-passes cs d = (
 
 decodes-whole : DecodesWhole
 unfolding DecodesWhole
-decodes-whole most s w bytes =
-    let short = whole-short most s bytes w in
-    let e = ap decodes (whole-spelled most s bytes w) ∙ decodes-framed (w .kind) (w .held) short in
+decodes-whole limit s w bytes =
+    let short = whole-short limit s bytes w in
+    let e = ap decodes (whole-spelled limit s bytes w) ∙ decodes-framed (w .kind) (w .held) short in
     let p = holds-passes (bodyChecks (w .kind)) (w .held) in
     ((λ d. p .0 (sym e ∙ d)), (λ h. e ∙ p .1 h))
 
 delivers-whole : DeliversWhole
 unfolding DeliversWhole
-delivers-whole most s w r bytes = ap delivered (whole-spelled most s bytes w)
-    ∙ delivered-framed (w .held) r (w .kind) (whole-short most s bytes w)
+delivers-whole limit s w r bytes = ap delivered (whole-spelled limit s bytes w)
+    ∙ delivered-framed (w .held) r (w .kind) (whole-short limit s bytes w)
 
 returns : tie.Need-returns
 returns c = (decodes-whole, delivers-whole)

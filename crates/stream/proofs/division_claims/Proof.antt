@@ -18,48 +18,48 @@ use Rattle.stream.proofs.division_claims.Tie as tie
 
 once : DividesOnce
 unfolding DividesOnce
-once most s = divided-over (tested most) (opens-are most) (wholes-are most) s (divided (link most) s)
+once limit s = divided-over (tested limit) (opens-are limit) (wholes-are limit) s (divided (link limit) s)
 
 spells : DivisionSpelled
 unfolding DivisionSpelled
-spells most s ps d = division-spelled d
+spells limit s ps d = division-spelled d
 
 lengths : DivisionLength
 unfolding DivisionLength
-lengths most s ps d = division-length d
+lengths limit s ps d = division-length d
 
 waits : UnfinishedOpen
 unfolding UnfinishedOpen
-waits most s ps d =
-    let F = link most in
+waits limit s ps d =
+    let F = link limit in
     let w = rest-waits F [] s (nothing-waits F) in
-    rw (division-cut F (in-tests most d))
-    (opens-are most _ .0 (w .0), λ x. w .1 (wholes-are most _ .1 x))
+    rw (division-cut F (in-tests limit d))
+    (opens-are limit _ .0 (w .0), λ x. w .1 (wholes-are limit _ .1 x))
 
 appends : DivisionAppend
 unfolding DivisionAppend
-appends most s t ps qs d e =
-    let x = division-append (link most) t (in-tests most d) (in-tests most e) in
-    (x .0, x .1, in-words most (x .2))
+appends limit s t ps qs d e =
+    let x = division-append (link limit) t (in-tests limit d) (in-tests limit e) in
+    (x .0, x .1, in-words limit (x .2))
 
 totals : TotalAppend
 unfolding TotalAppend
-totals most k s t ps qs rs d e r =
-    total-append (link most) counting k t (in-tests most d) (in-tests most e) (in-tests most r)
+totals limit k s t ps qs rs d e r =
+    total-append (link limit) counting k t (in-tests limit d) (in-tests limit e) (in-tests limit r)
 
 ends : EndsForGood
 unfolding EndsForGood
-ends most s c t u ps qs d e f x =
-    event (link most) s c u (in-tests most e) f .1 (event (link most) s c t (in-tests most d) f .0 x)
+ends limit s c t u ps qs d e f x =
+    event (link limit) s c u (in-tests limit e) f .1 (event (link limit) s c t (in-tests limit d) f .0 x)
 
 bound : ResyncsBound
 unfolding ResyncsBound
-bound most s ps d = resynced-bound (link most) (in-tests most d)
+bound limit s ps d = resynced-bound (link limit) (in-tests limit d)
 
 reached : ResyncsReached
 unfolding ResyncsReached
-reached most m ps d =
-    resynced-reached (link most) 0xF4 (opens-once most) (not-whole most) (not-twice most) m (in-tests most d)
+reached limit m ps d =
+    resynced-reached (link limit) 0xF4 (opens-once limit) (not-whole limit) (not-twice limit) m (in-tests limit d)
 
 returns : tie.Need-returns
 returns c = (once, (spells, (lengths, (waits, (appends, (totals, (ends, (bound, reached))))))))

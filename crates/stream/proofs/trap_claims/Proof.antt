@@ -8,9 +8,9 @@ use Rattle.stream.proofs.trap_claims.Tie as tie
 returns : tie.Need-returns
 unfolding BadLength BrokenTail
 returns c = (
-  λ most k lo hi t ps r d. in-words most (bad-length most k lo hi t ps r (in-tests most d)),
-  λ most k lo hi d m x t ps r l u ne v.
-      in-words most (broken-tail most k lo hi d m x t ps r l u ne (in-tests most v)),
+  λ limit k lo hi t ps r d. in-words limit (bad-length limit k lo hi t ps r (in-tests limit d)),
+  λ limit k lo hi d m x t ps r l u ne v.
+      in-words limit (broken-tail limit k lo hi d m x t ps r l u ne (in-tests limit v)),
 )
 
 pub trap-claims-spec : {M : Type 1} → statement M

@@ -3,34 +3,16 @@
 use borrow.Author.Needs.{needs}
 use mathlib.Core.Path.{sym, _∙_}
 use native.Mathlib.Omega.{arith}
-use Rattle.number.proofs.Numbers.{le16-some, le16-none}
+use Rattle.wire.proofs.Numbers.{le16-some, le16-none}
 use Rattle.ack.specs.Ack.{ackOf}
 use Rattle.ack.proofs.Reading.{checked-short, checked-clear, checked-set}
 use Rattle.ack.proofs.Ack.checked.Statement.{statement}
 use Rattle.ack.proofs.Ack.checked.Tie as tie
 
-le16-requires : tie.Need-le16-requires
-le16-requires c κs = search needs
-
-enum-known-raw : tie.Need-enum-known-raw
-enum-known-raw c = search needs
-
-enum-told : tie.Need-enum-told
-enum-told c = search needs
-
 returns : tie.Need-returns
 returns c =
     let short = le16-none _ _ (sym (c .before .before .le16 .ensures) ∙ c .enum-told .given .1) in
     sym (checked-short _ (omega arith))
-
-le16-requires-2 : tie.Need-le16-requires-2
-le16-requires-2 c κs = search needs
-
-enum-known-status : tie.Need-enum-known-status
-enum-known-status c = search needs
-
-enum-told-2 : tie.Need-enum-told-2
-enum-told-2 c = search needs
 
 returns-2 : tie.Need-returns-2
 returns-2 c =
@@ -44,9 +26,6 @@ returns-3 c =
     let word = le16-some _ _ _ (sym (there .before .before .before .before .le16 .ensures)
     ∙ there .before .before .raw .given .1) in
     sym (checked-clear _ (omega arith) (rw (← word .value) (c .if1 .taken)))
-
-sub-t8 : tie.Need-sub-t8
-sub-t8 c = search needs
 
 sub-t13 : tie.Need-sub-t13
 sub-t13 c =
@@ -66,15 +45,15 @@ pub checked-spec : {M : Type 1} → statement M
 checked-spec =
     tie.close
     (tie.spec
-    le16-requires
-    enum-known-raw
-    enum-told
+    (λ c κs. search needs)
+    (λ c. search needs)
+    (λ c. search needs)
     returns
-    le16-requires-2
-    enum-known-status
-    enum-told-2
+    (λ c κs. search needs)
+    (λ c. search needs)
+    (λ c. search needs)
     returns-2
     returns-3
-    sub-t8
+    (λ c. search needs)
     sub-t13
     returns-4)

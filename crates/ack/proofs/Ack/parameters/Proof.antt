@@ -1,25 +1,10 @@
 -- `ack::Ack::parameters` meets its contract, by what `expect` answers. Assumes nothing.
 use borrow.Author.Needs.{needs}
-use Rattle.parameters.specs.Parameters.{parametersReply, noParameters, parametersAs, returnedParameters}
+use Rattle.reply.specs.Parameters.{parametersReply, noParameters, parametersAs, returnedParameters}
 use Rattle.ack.proofs.Awaiting.{replied-read, replied-refused}
-use Rattle.parameters.proofs.Sensitivities.{parameters-returned}
+use Rattle.reply.proofs.Sensitivities.{parameters-returned}
 use Rattle.ack.proofs.Ack.parameters.Statement.{statement}
 use Rattle.ack.proofs.Ack.parameters.Tie as tie
-
-expect-requires : tie.Need-expect-requires
-expect-requires c κs = search needs
-
-enum-known-awaited : tie.Need-enum-known-awaited
-enum-known-awaited c = search needs
-
-enum-told : tie.Need-enum-told
-enum-told c = search needs
-
-error-requires : tie.Need-error-requires
-error-requires c κs = search needs
-
-refused-requires : tie.Need-refused-requires
-refused-requires c κs = search needs
 
 returns : tie.Need-returns
 returns c =
@@ -29,12 +14,6 @@ returns c =
     (at-told .enum-told .given .1)
     (c .before .error .ensures)
     (c .refused .ensures)
-
-payload-requires : tie.Need-payload-requires
-payload-requires c κs = search needs
-
-read-requires : tie.Need-read-requires
-read-requires c κs = search needs
 
 returns-2 : tie.Need-returns-2
 returns-2 c =
@@ -49,12 +28,12 @@ pub parameters-spec : {M : Type 1} → statement M
 parameters-spec =
     tie.close
     (tie.spec
-    expect-requires
-    enum-known-awaited
-    enum-told
-    error-requires
-    refused-requires
+    (λ c κs. search needs)
+    (λ c. search needs)
+    (λ c. search needs)
+    (λ c κs. search needs)
+    (λ c κs. search needs)
     returns
-    payload-requires
-    read-requires
+    (λ c κs. search needs)
+    (λ c κs. search needs)
     returns-2)

@@ -6,18 +6,6 @@ use Rattle.ack.proofs.Reading.{parsed-whole}
 use Rattle.ack.proofs.Ack.parse.Statement.{statement}
 use Rattle.ack.proofs.Ack.parse.Tie as tie
 
-checked-requires : tie.Need-checked-requires
-checked-requires c κs = search needs
-
-enum-known-ack : tie.Need-enum-known-ack
-enum-known-ack c = search needs
-
-enum-known-check : tie.Need-enum-known-check
-enum-known-check c = search needs
-
-error-requires : tie.Need-error-requires
-error-requires c κs = search needs
-
 returns : tie.Need-returns
 returns c = parsed-whole _ (sym (c .before .before .before .checked .ensures) ∙ c .before .ack .given .1) refl
 
@@ -29,4 +17,4 @@ returns-2 c =
 pub parse-spec : {M : Type 1} → statement M
 parse-spec =
     tie.close
-    (tie.spec checked-requires enum-known-ack enum-known-check error-requires returns returns-2)
+    (tie.spec (λ c κs. search needs) (λ c. search needs) (λ c. search needs) (λ c κs. search needs) returns returns-2)

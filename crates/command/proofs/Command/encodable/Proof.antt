@@ -1,144 +1,80 @@
--- `command::Command::encodable` meets its contract: each arm is a line of `encodable`. Assumes nothing.
-use mathlib.Core.Path.{sym, _∙_}
+-- `command::Command::encodable` meets its contract: two arms are a line of `encodable` each, and the last is the rest
+-- of them. Assumes nothing.
+use mathlib.Core.Path.{_≡_, refl, sym, _∙_}
+use mathlib.Core.Bool.{true}
+use mathlib.Core.List.{List, [], _∷_}
+use Prim.Native.Nat.{ℕ}
 use native.Mathlib.Omega.{arith}
-use Rattle.command.proofs.Frames.{gates-encodable}
+use types.Run.{OneOf, miss}
+use denote.Enum.Declared.{tagOf}
 use borrow.Author.Needs.{needs}
+use Rattle.command.specs.Command.{encodable}
+use Rattle.command.specs.declared.Command.{Command}
+use Rattle.command.specs.declared.Command.the-variants.{EnableConfig, EndConfig, SetMaxGates, ReadParameters}
+use Rattle.command.specs.declared.Command.the-variants.{EngineeringMode, SetSensitivity, ReadFirmware, SetBaud}
+use Rattle.command.specs.declared.Command.the-variants.{FactoryReset, Restart, Bluetooth, ReadMac}
+use Rattle.command.proofs.Command.{the-type}
+use Rattle.command.proofs.Frames.{gates-encodable}
 use Rattle.command.proofs.Command.encodable.Statement.{statement}
 use Rattle.command.proofs.Command.encodable.Tie as tie
 
-enum-told : tie.Need-enum-told
-enum-told c = search needs
-
-enum-told-2 : tie.Need-enum-told-2
-enum-told-2 c = search needs
-
-enum-known-self : tie.Need-enum-known-self
-enum-known-self c = search needs
-
-may-be-farthest-requires : tie.Need-may-be-farthest-requires
-may-be-farthest-requires c κs = search needs
-
-may-be-farthest-requires-2 : tie.Need-may-be-farthest-requires-2
-may-be-farthest-requires-2 c κs = search needs
-
-enum-told-3 : tie.Need-enum-told-3
-enum-told-3 c = search needs
-
-enum-told-4 : tie.Need-enum-told-4
-enum-told-4 c = search needs
-
-enum-known-self-2 : tie.Need-enum-known-self-2
-enum-known-self-2 c = search needs
-
-known-requires : tie.Need-known-requires
-known-requires c κs = search needs
-
-are-sensitivities-requires : tie.Need-are-sensitivities-requires
-are-sensitivities-requires c κs = search needs
-
-enum-told-5 : tie.Need-enum-told-5
-enum-told-5 c = search needs
-
-enum-told-6 : tie.Need-enum-told-6
-enum-told-6 c = search needs
-
-enum-told-7 : tie.Need-enum-told-7
-enum-told-7 c = search needs
-
-enum-told-8 : tie.Need-enum-told-8
-enum-told-8 c = search needs
-
-enum-told-9 : tie.Need-enum-told-9
-enum-told-9 c = search needs
-
-enum-told-10 : tie.Need-enum-told-10
-enum-told-10 c = search needs
-
 returns : tie.Need-returns
-returns c = search needs
-
-returns-2 : tie.Need-returns-2
-returns-2 c = search needs
-
-returns-3 : tie.Need-returns-3
-returns-3 c =
+returns c =
     let test = c .before .before in
     let self = test .before .before .self .given in
     let moving = sym (test .may-be-farthest .ensures) ∙ c .before .if1 .taken in
     rw (self .1, gates-encodable _ _ (self .0 .1 .1 .0) (omega arith), moving, c .may-be-farthest2 .ensures)
 
-returns-4 : tie.Need-returns-4
-returns-4 c =
+returns-2 : tie.Need-returns-2
+returns-2 c =
     let self = c .before .before .before .self .given in
     let moving = sym (c .before .may-be-farthest .ensures) ∙ c .if1 .left in
     rw (self .1, gates-encodable _ _ (self .0 .1 .1 .0) (omega arith), moving) (c .if1 .left)
 
-returns-5 : tie.Need-returns-5
-returns-5 c = search needs
-
-returns-6 : tie.Need-returns-6
-returns-6 c = search needs
-
-returns-7 : tie.Need-returns-7
-returns-7 c =
+returns-3 : tie.Need-returns-3
+returns-3 c =
     let test = c .before .before in
     let gate = sym (test .known .ensures) ∙ c .before .if2 .taken in
     rw (test .before .before .self2 .given .1, gate, c .are-sensitivities .ensures)
 
-returns-8 : tie.Need-returns-8
-returns-8 c =
+returns-4 : tie.Need-returns-4
+returns-4 c =
     let gate = sym (c .before .known .ensures) ∙ c .if2 .left in
     rw (c .before .before .before .self2 .given .1, gate) (c .if2 .left)
 
-returns-9 : tie.Need-returns-9
-returns-9 c = search needs
+-- The numbers of the other commands among the twelve; these are all encodable.
+abbrev others : List ℕ
+others = 0 ∷ 1 ∷ 3 ∷ 4 ∷ 6 ∷ 7 ∷ 8 ∷ 9 ∷ 10 ∷ 11 ∷ []
 
-returns-10 : tie.Need-returns-10
-returns-10 c = search needs
+others-encodable : (d : Command) → OneOf others (tagOf the-type d) → true ≡ encodable d
+others-encodable EnableConfig h = refl
+others-encodable EndConfig h = refl
+others-encodable (SetMaxGates m s n) h = absurd (miss others 2 tt h)
+others-encodable ReadParameters h = refl
+others-encodable (EngineeringMode on) h = refl
+others-encodable (SetSensitivity g m s) h = absurd (miss others 5 tt h)
+others-encodable ReadFirmware h = refl
+others-encodable (SetBaud b) h = refl
+others-encodable FactoryReset h = refl
+others-encodable Restart h = refl
+others-encodable (Bluetooth on) h = refl
+others-encodable ReadMac h = refl
 
-returns-11 : tie.Need-returns-11
-returns-11 c = search needs
-
-returns-12 : tie.Need-returns-12
-returns-12 c = search needs
-
-returns-13 : tie.Need-returns-13
-returns-13 c = search needs
-
-returns-14 : tie.Need-returns-14
-returns-14 c = search needs
+returns-5 : tie.Need-returns-5
+returns-5 c = others-encodable (c .before .args .self) (c .match .keys3)
 
 pub encodable-spec : {M : Type 1} → statement M
 encodable-spec =
     tie.close
     (tie.spec
-    enum-told
-    enum-told-2
-    enum-known-self
-    may-be-farthest-requires
-    may-be-farthest-requires-2
-    enum-told-3
-    enum-told-4
-    enum-known-self-2
-    known-requires
-    are-sensitivities-requires
-    enum-told-5
-    enum-told-6
-    enum-told-7
-    enum-told-8
-    enum-told-9
-    enum-told-10
+    (λ c. search needs)
+    (λ c κs. search needs)
+    (λ c κs. search needs)
+    (λ c. search needs)
+    (λ c κs. search needs)
+    (λ c κs. search needs)
     returns
     returns-2
     returns-3
     returns-4
-    returns-5
-    returns-6
-    returns-7
-    returns-8
-    returns-9
-    returns-10
-    returns-11
-    returns-12
-    returns-13
-    returns-14)
+    returns-5)

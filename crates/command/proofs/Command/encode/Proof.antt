@@ -7,26 +7,11 @@ use borrow.Author.Needs.{needs}
 use Rattle.command.proofs.Command.encode.Statement.{statement}
 use Rattle.command.proofs.Command.encode.Tie as tie
 
-encodable-requires : tie.Need-encodable-requires
-encodable-requires c κs = search needs
-
 returns : tie.Need-returns
 returns c =
     let test = c .before in
     let a = test .before .before .args in
     encode-refused (a .self) (a .out .now) (sym (test .encodable .ensures) ∙ not-true _ (c .if1 .taken))
-
-word-requires : tie.Need-word-requires
-word-requires c κs = search needs
-
-value-requires : tie.Need-value-requires
-value-requires c κs = search needs
-
-put-value-requires : tie.Need-put-value-requires
-put-value-requires c κs = search needs
-
-same-length : tie.Need-same-length
-same-length c = search needs
 
 returns-2 : tie.Need-returns-2
 returns-2 c =
@@ -42,10 +27,10 @@ pub encode-spec : {M : Type 1} → statement M
 encode-spec =
     tie.close
     (tie.spec
-    encodable-requires
+    (λ c κs. search needs)
     returns
-    word-requires
-    value-requires
-    put-value-requires
-    same-length
+    (λ c κs. search needs)
+    (λ c κs. search needs)
+    (λ c κs. search needs)
+    (λ c. search needs)
     returns-2)

@@ -1,10 +1,10 @@
 -- `cursor::Cursor::record` meets its contract: Method.antt's theorem, over `put_record`. Assumes nothing.
 use mir.Syntax.{w16, w32}
-use Rattle.number.specs.Number.{leBytes}
+use Rattle.wire.specs.Number.{leBytes}
 use Rattle.cursor.proofs.Param.{numbers}
 use Rattle.cursor.proofs.Method.{method₂}
-use Rattle.put.proofs.put_record.Symbol as g
-use Rattle.put.proofs.put_record.Met as g-thm
+use Rattle.writer.proofs.put_record.Symbol as g
+use Rattle.writer.proofs.put_record.Met as g-thm
 use Rattle.cursor.proofs.Cursor.«record».Key as key
 use Rattle.cursor.proofs.Cursor.«record».Statement as stated
 use Rattle.cursor.proofs.Cursor.«record».Code as code
@@ -13,5 +13,5 @@ pub record-spec : {M : Type 1} → stated.statement M
 unfolding code.routine
 record-spec 𝓤 H 𝓜 𝓖 𝓡 =
     method₂ (numbers w16 (leBytes 2) w32 (leBytes 4)) 𝓤 H 𝓜 𝓖 𝓡 code.env key.name g.name (code.unfolded 𝓤 H 𝓜 𝓡)
-    code.calls-cursor·after code.calls-cursor·tell g.routine code.calls-put·put-record
+    code.calls-cursor·after code.calls-cursor·tell g.routine code.calls-writer·put-record
     (g-thm.met 𝓤 H 𝓜 𝓖 𝓡)

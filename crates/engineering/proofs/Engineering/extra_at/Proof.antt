@@ -7,9 +7,6 @@ use Rattle.engineering.proofs.Blocks.{extra-there, extra-missing}
 use Rattle.engineering.proofs.Engineering.extra_at.Statement.{statement}
 use Rattle.engineering.proofs.Engineering.extra_at.Tie as tie
 
-extra-requires : tie.Need-extra-requires
-extra-requires c κs = search needs
-
 array-read-t9 : tie.Need-array-read-t9
 array-read-t9 c = omega (arith, ap (λ k. k .count) (c .before .before .before .extra .ensures))
 
@@ -22,4 +19,4 @@ returns-2 : tie.Need-returns-2
 returns-2 c = sym (extra-missing _ _ (omega (arith, ap (λ k. k .count) (c .before .before .extra .ensures))))
 
 pub extra-at-spec : {M : Type 1} → statement M
-extra-at-spec = tie.close (tie.spec extra-requires array-read-t9 returns returns-2)
+extra-at-spec = tie.close (tie.spec (λ c κs. search needs) array-read-t9 returns returns-2)

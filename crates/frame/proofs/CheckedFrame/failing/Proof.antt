@@ -2,11 +2,8 @@ use borrow.Author.Needs.{needs}
 use Rattle.frame.proofs.CheckedFrame.failing.Statement.{statement}
 use Rattle.frame.proofs.CheckedFrame.failing.Tie as tie
 
-none-requires : tie.Need-none-requires
-none-requires c κs = search needs
-
 returns : tie.Need-returns
 returns c = rw (c .none .ensures)
 
 pub failing-spec : {M : Type 1} → statement M
-failing-spec = tie.close (tie.spec none-requires returns)
+failing-spec = tie.close (tie.spec (λ c κs. search needs) returns)

@@ -6,9 +6,9 @@ use mathlib.Core.List.{List}
 use lib.ListN.{take, drop}
 use denote.Ref.{now}
 use Rattle.wire.specs.declared.Kind.{Kind}
-use Rattle.envelope.specs.Envelope.{announced, envelope}
-use Rattle.envelope.specs.declared.Envelope.the-variants.{Data}
-use Rattle.envelope.proofs.Opened.{Held, opened-data}
+use Rattle.frame.specs.Envelope.{announced, envelope}
+use Rattle.frame.specs.declared.envelope.Envelope.the-variants.{Data}
+use Rattle.frame.proofs.Opened.{Held, opened-data}
 use Rattle.frame.specs.Frame.{decoded}
 use Rattle.frame.proofs.Answers.{fails-framing, passes-framing}
 use borrow.Author.Needs.{needs}
@@ -31,18 +31,6 @@ opened c = sym (c .before .before .before .open .ensures) ∙ c .before .kind .g
 held : (c : tie.After-known-told2) → Held (bytes c) (kind c) (end c)
 held c = opened-data _ _ _ (opened c)
 
-open-requires : tie.Need-open-requires
-open-requires c κs = search needs
-
-enum-known-check : tie.Need-enum-known-check
-enum-known-check c = search needs
-
-failing-requires : tie.Need-failing-requires
-failing-requires c κs = search needs
-
-enum-known-kind : tie.Need-enum-known-kind
-enum-known-kind c = search needs
-
 sub-decode-at : tie.Need-sub-decode-at
 sub-decode-at c = omega (arith, held c .ends)
 
@@ -51,12 +39,6 @@ part-decode-at-start c = omega (arith, held c .ends)
 
 part-decode-at-end : tie.Need-part-decode-at-end
 part-decode-at-end c = omega (arith, held c .ends, held c .inside)
-
-add-decode-at : tie.Need-add-decode-at
-add-decode-at c = search needs
-
-decode-at-requires : tie.Need-decode-at-requires
-decode-at-requires c κs = search needs
 
 returns : tie.Need-returns
 returns c =
@@ -74,14 +56,14 @@ pub checked-spec : {M : Type 1} → statement M
 checked-spec =
     tie.close
     (tie.spec
-    open-requires
-    enum-known-check
-    failing-requires
-    enum-known-kind
+    (λ c κs. search needs)
+    (λ c. search needs)
+    (λ c κs. search needs)
+    (λ c. search needs)
     sub-decode-at
     part-decode-at-start
     part-decode-at-end
-    add-decode-at
-    decode-at-requires
+    (λ c. search needs)
+    (λ c κs. search needs)
     returns
     returns-2)

@@ -4,21 +4,6 @@ use borrow.Author.Needs.{needs}
 use Rattle.frame.proofs.Frame.of_ack.Statement.{statement}
 use Rattle.frame.proofs.Frame.of_ack.Tie as tie
 
-checked-requires : tie.Need-checked-requires
-checked-requires c κs = search needs
-
-enum-known-check : tie.Need-enum-known-check
-enum-known-check c = search needs
-
-failing-requires : tie.Need-failing-requires
-failing-requires c κs = search needs
-
-enum-known-ack : tie.Need-enum-known-ack
-enum-known-ack c = search needs
-
-no-report-requires : tie.Need-no-report-requires
-no-report-requires c κs = search needs
-
 returns : tie.Need-returns
 returns c = let read = c .before .before .before .before .checked .ensures in
     c .failing .ensures ∙ sym (ack-fails _ _ _ (sym read ∙ c .before .before .check .given .1))
@@ -31,10 +16,10 @@ pub of-ack-spec : {M : Type 1} → statement M
 of-ack-spec =
     tie.close
     (tie.spec
-    checked-requires
-    enum-known-check
-    failing-requires
-    enum-known-ack
-    no-report-requires
+    (λ c κs. search needs)
+    (λ c. search needs)
+    (λ c κs. search needs)
+    (λ c. search needs)
+    (λ c κs. search needs)
     returns
     returns-2)

@@ -4,21 +4,6 @@ use borrow.Author.Needs.{needs}
 use Rattle.frame.proofs.Frame.of_report.Statement.{statement}
 use Rattle.frame.proofs.Frame.of_report.Tie as tie
 
-checked-requires : tie.Need-checked-requires
-checked-requires c κs = search needs
-
-enum-known-failed : tie.Need-enum-known-failed
-enum-known-failed c = search needs
-
-failing-requires : tie.Need-failing-requires
-failing-requires c κs = search needs
-
-enum-told : tie.Need-enum-told
-enum-told c = search needs
-
-no-ack-requires : tie.Need-no-ack-requires
-no-ack-requires c κs = search needs
-
 returns : tie.Need-returns
 returns c =
     let read = c .before .before .before .before .checked .ensures in
@@ -35,10 +20,10 @@ pub of-report-spec : {M : Type 1} → statement M
 of-report-spec =
     tie.close
     (tie.spec
-    checked-requires
-    enum-known-failed
-    failing-requires
-    enum-told
-    no-ack-requires
+    (λ c κs. search needs)
+    (λ c. search needs)
+    (λ c κs. search needs)
+    (λ c. search needs)
+    (λ c κs. search needs)
     returns
     returns-2)

@@ -4,12 +4,6 @@ use borrow.Author.Needs.{needs}
 use Rattle.frame.proofs.Frame.parse.Statement.{statement}
 use Rattle.frame.proofs.Frame.parse.Tie as tie
 
-checked-requires : tie.Need-checked-requires
-checked-requires c κs = search needs
-
-outcome-requires : tie.Need-outcome-requires
-outcome-requires c κs = search needs
-
 returns : tie.Need-returns
 unfolding parsedFrame
 returns c =
@@ -17,4 +11,4 @@ returns c =
     parsed-whole _ (rw (c .outcome .ensures, read))
 
 pub parse-spec : {M : Type 1} → statement M
-parse-spec = tie.close (tie.spec checked-requires outcome-requires returns)
+parse-spec = tie.close (tie.spec (λ c κs. search needs) (λ c κs. search needs) returns)

@@ -1,27 +1,15 @@
--- `parser::Parser::cleared` meets its contract. The parser's type says that its buffer has room and that no counter is
--- past its most, so that demand 3 holds behind a reset of any parser. Assumes nothing.
-use mathlib.Core.Path.{refl}
-use native.Mathlib.Omega.{arith}
-use lib.ListN.{length-map}
-use borrow.Author.Needs.{needs}
-use Rattle.limit.specs.Length.{linkMost}
-use Rattle.parser.proofs.Feeding.{Valid}
-use Rattle.parser.proofs.Demand.{reset-claims, reset-first}
-use Rattle.parser.proofs.Parser.cleared.Statement.{statement}
-use Rattle.parser.proofs.Parser.cleared.Tie as tie
+-- `parser::Parser::cleared` meets its contract: LocalReset.antt walks it, over what `Parser::reset` promises.
+-- Assumes nothing.
+use Rattle.parser.proofs.Contracts.{ResetSays}
+use Rattle.parser.proofs.LocalReset.{local-reset}
+use Rattle.parser.proofs.Parser.reset.Symbol as g
+use Rattle.parser.proofs.Parser.reset.Met as g-thm
+use Rattle.parser.proofs.Parser.cleared.Key as key
+use Rattle.parser.proofs.Parser.cleared.Statement as stated
+use Rattle.parser.proofs.Parser.cleared.Code as code
 
-hunting-requires : tie.Need-hunting-requires
-hunting-requires c κs = search needs
-
-returns : tie.Need-returns
-returns c =
-    let p = c .before .before .before .args .self in
-    let valid : Valid linkMost p = record {
-      room = omega (arith, length-map (p .buf) (λ v. v), c .before .before .before .good .0 .1 .1 .0 .1 .0 .1);
-      capped = record { frames = omega arith; resyncs = omega arith; dropped = omega arith; malformed = omega arith };
-    } in
-    let claims = reset-claims p valid in
-    rw (c .hunting .ensures) (refl, (claims .0, (claims .1, reset-first p)))
-
-pub cleared-spec : {M : Type 1} → statement M
-cleared-spec = tie.close (tie.spec hunting-requires returns)
+pub cleared-spec : {M : Type 1} → stated.statement M
+unfolding code.routine
+cleared-spec 𝓤 H 𝓜 𝓖 𝓡 =
+    local-reset 𝓤 (ResetSays 𝓤) H 𝓜 𝓖 𝓡 code.env key.name g.name (code.unfolded 𝓤 H 𝓜 𝓡)
+    g.routine code.calls-parser·Parser·reset (g-thm.met 𝓤 H 𝓜 𝓖 𝓡)

@@ -5,11 +5,8 @@ use Rattle.parser.proofs.Demand.{fresh-claims}
 use Rattle.parser.proofs.Parser.new.Statement.{statement}
 use Rattle.parser.proofs.Parser.new.Tie as tie
 
-hunting-requires : tie.Need-hunting-requires
-hunting-requires c κs = search needs
-
 returns : tie.Need-returns
 returns c = rw (c .hunting .ensures) (refl, fresh-claims)
 
 pub new-spec : {M : Type 1} → statement M
-new-spec = tie.close (tie.spec hunting-requires returns)
+new-spec = tie.close (tie.spec (λ c κs. search needs) returns)

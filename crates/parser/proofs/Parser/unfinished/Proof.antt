@@ -4,12 +4,9 @@ use Rattle.parser.specs.Feed.{unfinishedOf}
 use Rattle.parser.proofs.Parser.unfinished.Statement.{statement}
 use Rattle.parser.proofs.Parser.unfinished.Tie as tie
 
-unfinished-requires : tie.Need-unfinished-requires
-unfinished-requires c κs = search needs
-
 returns : tie.Need-returns
 unfolding unfinishedOf
 returns c = c .unfinished .ensures
 
 pub unfinished-spec : {M : Type 1} → statement M
-unfinished-spec = tie.close (tie.spec unfinished-requires returns)
+unfinished-spec = tie.close (tie.spec (λ c κs. search needs) returns)

@@ -2,48 +2,21 @@
 use borrow.Author.Needs.{needs}
 use mathlib.Core.Path.{sym, _∙_}
 use native.Mathlib.Omega.{arith}
-use Rattle.number.proofs.Numbers.{le16-some, le16-none, le32-some, le32-none}
+use Rattle.wire.proofs.Numbers.{le16-some, le16-none, le32-some, le32-none}
 use Rattle.reply.specs.Replies.{firmwareOf, firmwareAs}
 use Rattle.reply.proofs.Payloads.{sized-long, sized-short}
 use Rattle.reply.proofs.FirmwareVersion.read.Statement.{statement}
 use Rattle.reply.proofs.FirmwareVersion.read.Tie as tie
-
-le16-requires : tie.Need-le16-requires
-le16-requires c κs = search needs
-
-enum-known-firmware-type : tie.Need-enum-known-firmware-type
-enum-known-firmware-type c = search needs
-
-enum-told : tie.Need-enum-told
-enum-told c = search needs
 
 returns : tie.Need-returns
 returns c =
     let short = le16-none _ _ (sym (c .before .before .le16 .ensures) ∙ c .enum-told .given .1) in
     sym (sized-short firmwareAs _ 8 firmwareOf _ (omega arith))
 
-le16-requires-2 : tie.Need-le16-requires-2
-le16-requires-2 c κs = search needs
-
-enum-known-major : tie.Need-enum-known-major
-enum-known-major c = search needs
-
-enum-told-2 : tie.Need-enum-told-2
-enum-told-2 c = search needs
-
 returns-2 : tie.Need-returns-2
 returns-2 c =
     let short = le16-none _ _ (sym (c .before .before .le162 .ensures) ∙ c .enum-told2 .given .1) in
     sym (sized-short firmwareAs _ 8 firmwareOf _ (omega arith))
-
-le32-requires : tie.Need-le32-requires
-le32-requires c κs = search needs
-
-enum-known-minor : tie.Need-enum-known-minor
-enum-known-minor c = search needs
-
-enum-told-3 : tie.Need-enum-told-3
-enum-told-3 c = search needs
 
 returns-3 : tie.Need-returns-3
 returns-3 c =
@@ -64,16 +37,16 @@ pub read-spec : {M : Type 1} → statement M
 read-spec =
     tie.close
     (tie.spec
-    le16-requires
-    enum-known-firmware-type
-    enum-told
+    (λ c κs. search needs)
+    (λ c. search needs)
+    (λ c. search needs)
     returns
-    le16-requires-2
-    enum-known-major
-    enum-told-2
+    (λ c κs. search needs)
+    (λ c. search needs)
+    (λ c. search needs)
     returns-2
-    le32-requires
-    enum-known-minor
-    enum-told-3
+    (λ c κs. search needs)
+    (λ c. search needs)
+    (λ c. search needs)
     returns-3
     returns-4)

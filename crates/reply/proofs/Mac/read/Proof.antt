@@ -2,35 +2,17 @@
 use borrow.Author.Needs.{needs}
 use mathlib.Core.Path.{sym, _∙_}
 use native.Mathlib.Omega.{arith}
-use Rattle.number.proofs.Numbers.{byte-some, byte-none}
+use Rattle.wire.proofs.Numbers.{byte-some, byte-none}
 use Rattle.reply.specs.Replies.{macOf, macAs}
-use Rattle.byte_string.proofs.Prefixes.{prefixed-full}
+use Rattle.wire.proofs.Prefixes.{prefixed-full}
 use Rattle.reply.proofs.Payloads.{sized-long, sized-short}
 use Rattle.reply.proofs.Mac.read.Statement.{statement}
 use Rattle.reply.proofs.Mac.read.Tie as tie
-
-byte-at-requires : tie.Need-byte-at-requires
-byte-at-requires c κs = search needs
-
-enum-told : tie.Need-enum-told
-enum-told c = search needs
-
-enum-told-2 : tie.Need-enum-told-2
-enum-told-2 c = search needs
-
-refused-requires : tie.Need-refused-requires
-refused-requires c κs = search needs
 
 returns : tie.Need-returns
 returns c =
     let short = byte-none _ _ (sym (c .before .before .before .byte-at .ensures) ∙ c .before .enum-told2 .given .1) in
     c .refused .ensures ∙ sym (sized-short macAs _ 6 macOf _ (omega arith))
-
-slice-aggregate-copy-prefix : tie.Need-slice-aggregate-copy-prefix
-slice-aggregate-copy-prefix c = search needs
-
-copy-prefix-requires : tie.Need-copy-prefix-requires
-copy-prefix-requires c κs = search needs
 
 returns-2 : tie.Need-returns-2
 returns-2 c =
@@ -43,11 +25,11 @@ pub read-spec : {M : Type 1} → statement M
 read-spec =
     tie.close
     (tie.spec
-    byte-at-requires
-    enum-told
-    enum-told-2
-    refused-requires
+    (λ c κs. search needs)
+    (λ c. search needs)
+    (λ c. search needs)
+    (λ c κs. search needs)
     returns
-    slice-aggregate-copy-prefix
-    copy-prefix-requires
+    (λ c. search needs)
+    (λ c κs. search needs)
     returns-2)

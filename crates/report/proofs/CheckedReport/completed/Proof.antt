@@ -6,15 +6,6 @@ use Rattle.report.proofs.Answers.{fails-R6}
 use Rattle.report.proofs.CheckedReport.completed.Statement.{statement}
 use Rattle.report.proofs.CheckedReport.completed.Tie as tie
 
-with-block-requires : tie.Need-with-block-requires
-with-block-requires c κs = search needs
-
-without-block-requires : tie.Need-without-block-requires
-without-block-requires c κs = search needs
-
-failing-requires : tie.Need-failing-requires
-failing-requires c κs = search needs
-
 returns : tie.Need-returns
 returns c = rw (c .before .match .keys1) (c .with-block .ensures)
 
@@ -30,9 +21,9 @@ pub completed-spec : {M : Type 1} → statement M
 completed-spec =
     tie.close
     (tie.spec
-    with-block-requires
-    without-block-requires
-    failing-requires
+    (λ c κs. search needs)
+    (λ c κs. search needs)
+    (λ c κs. search needs)
     returns
     returns-2
     returns-3)

@@ -3,11 +3,8 @@ use borrow.Author.Needs.{needs}
 use Rattle.report.proofs.CheckedReport.failing.Statement.{statement}
 use Rattle.report.proofs.CheckedReport.failing.Tie as tie
 
-no-report-requires : tie.Need-no-report-requires
-no-report-requires c κs = search needs
-
 returns : tie.Need-returns
 returns c = rw (c .no-report .ensures)
 
 pub failing-spec : {M : Type 1} → statement M
-failing-spec = tie.close (tie.spec no-report-requires returns)
+failing-spec = tie.close (tie.spec (λ c κs. search needs) returns)

@@ -1,4 +1,4 @@
--- `report::CheckedReport::without_block` meets its contract: nothing stands behind the basic bytes or R7 fails. Assumes
+-- `report::CheckedReport::without_block` meets its contract: nothing stands after the basic bytes or R7 fails. Assumes
 -- nothing.
 use mathlib.Core.Path.{sym, _∙_}
 use borrow.Author.Needs.{needs}
@@ -6,20 +6,8 @@ use Rattle.report.proofs.Answers.{fails-R7, completes-basic}
 use Rattle.report.proofs.CheckedReport.without_block.Statement.{statement}
 use Rattle.report.proofs.CheckedReport.without_block.Tie as tie
 
-failing-requires : tie.Need-failing-requires
-failing-requires c κs = search needs
-
 returns : tie.Need-returns
 returns c = c .failing .ensures ∙ sym (fails-R7 _ _ (c .before .if1 .taken))
-
-no-engineering-requires : tie.Need-no-engineering-requires
-no-engineering-requires c κs = search needs
-
-made-requires : tie.Need-made-requires
-made-requires c κs = search needs
-
-passing-requires : tie.Need-passing-requires
-passing-requires c κs = search needs
 
 returns-2 : tie.Need-returns-2
 returns-2 c =
@@ -32,9 +20,9 @@ pub without-block-spec : {M : Type 1} → statement M
 without-block-spec =
     tie.close
     (tie.spec
-    failing-requires
+    (λ c κs. search needs)
     returns
-    no-engineering-requires
-    made-requires
-    passing-requires
+    (λ c κs. search needs)
+    (λ c κs. search needs)
+    (λ c κs. search needs)
     returns-2)

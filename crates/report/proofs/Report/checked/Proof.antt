@@ -6,7 +6,7 @@ use lib.ListN.{length}
 use denote.Ref.{now}
 use borrow.Author.Needs.{needs}
 use native.Mathlib.Omega.{arith}
-use Rattle.layout.proofs.Layouts.{layout-is, data-long, block-part}
+use Rattle.report.proofs.Layouts.{layout-is, data-long, block-part}
 use Rattle.report.proofs.Answers.{layout-fails, completes}
 use Rattle.report.proofs.Report.checked.Statement.{statement}
 use Rattle.report.proofs.Report.checked.Tie as tie
@@ -16,21 +16,6 @@ long : (c : tie.After-basic) → 13 ≤ length (now (c .before .before .before .
 long c =
     let at-read = c .before .before in
     data-long _ _ (sym (at-read .before .before .checked .ensures) ∙ at-read .read .given .1)
-
-checked-requires : tie.Need-checked-requires
-checked-requires c κs = search needs
-
-enum-known-read : tie.Need-enum-known-read
-enum-known-read c = search needs
-
-enum-told : tie.Need-enum-told
-enum-told c = search needs
-
-failed-requires : tie.Need-failed-requires
-failed-requires c κs = search needs
-
-failing-requires : tie.Need-failing-requires
-failing-requires c κs = search needs
 
 returns : tie.Need-returns
 returns c =
@@ -48,12 +33,6 @@ sub-completed c = omega (arith, long c)
 part-completed-start : tie.Need-part-completed-start
 part-completed-start c = omega (arith, long c)
 
-part-completed-end : tie.Need-part-completed-end
-part-completed-end c = search needs
-
-completed-requires : tie.Need-completed-requires
-completed-requires c κs = search needs
-
 returns-2 : tie.Need-returns-2
 returns-2 c =
     let at-basic = c .before .before in
@@ -65,15 +44,15 @@ pub checked-spec : {M : Type 1} → statement M
 checked-spec =
     tie.close
     (tie.spec
-    checked-requires
-    enum-known-read
-    enum-told
-    failed-requires
-    failing-requires
+    (λ c κs. search needs)
+    (λ c. search needs)
+    (λ c. search needs)
+    (λ c κs. search needs)
+    (λ c κs. search needs)
     returns
     sub-end
     sub-completed
     part-completed-start
-    part-completed-end
-    completed-requires
+    (λ c. search needs)
+    (λ c κs. search needs)
     returns-2)

@@ -3,11 +3,8 @@ use borrow.Author.Needs.{needs}
 use Rattle.report.proofs.Report.made.Statement.{statement}
 use Rattle.report.proofs.Report.made.Tie as tie
 
-from-byte-requires : tie.Need-from-byte-requires
-from-byte-requires c κs = search needs
-
 returns : tie.Need-returns
 returns c = rw (c .from-byte .ensures .0)
 
 pub made-spec : {M : Type 1} → statement M
-made-spec = tie.close (tie.spec from-byte-requires returns)
+made-spec = tie.close (tie.spec (λ c κs. search needs) returns)

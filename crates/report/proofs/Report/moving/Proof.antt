@@ -4,14 +4,8 @@ use borrow.Author.Needs.{needs}
 use Rattle.report.proofs.Report.moving.Statement.{statement}
 use Rattle.report.proofs.Report.moving.Tie as tie
 
-moving-requires : tie.Need-moving-requires
-moving-requires c κs = search needs
-
 returns : tie.Need-returns
 returns c = rw (sym (c .before .moving .ensures) ∙ c .if1 .taken)
 
-returns-2 : tie.Need-returns-2
-returns-2 c = search needs
-
 pub moving-spec : {M : Type 1} → statement M
-moving-spec = tie.close (tie.spec moving-requires returns returns-2)
+moving-spec = tie.close (tie.spec (λ c κs. search needs) returns (λ c. search needs))

@@ -7,12 +7,6 @@ use Rattle.report.proofs.Answers.{parsed-whole}
 use Rattle.report.proofs.Report.parse.Statement.{statement}
 use Rattle.report.proofs.Report.parse.Tie as tie
 
-checked-requires : tie.Need-checked-requires
-checked-requires c κs = search needs
-
-outcome-requires : tie.Need-outcome-requires
-outcome-requires c κs = search needs
-
 returns : tie.Need-returns
 unfolding parsedReport
 returns c =
@@ -21,4 +15,4 @@ returns c =
     parsed-whole _ (rw (told, read))
 
 pub parse-spec : {M : Type 1} → statement M
-parse-spec = tie.close (tie.spec checked-requires outcome-requires returns)
+parse-spec = tie.close (tie.spec (λ c κs. search needs) (λ c κs. search needs) returns)

@@ -4,14 +4,8 @@ use borrow.Author.Needs.{needs}
 use Rattle.report.proofs.Report.stationary.Statement.{statement}
 use Rattle.report.proofs.Report.stationary.Tie as tie
 
-stationary-requires : tie.Need-stationary-requires
-stationary-requires c κs = search needs
-
 returns : tie.Need-returns
 returns c = rw (sym (c .before .stationary .ensures) ∙ c .if1 .taken)
 
-returns-2 : tie.Need-returns-2
-returns-2 c = search needs
-
 pub stationary-spec : {M : Type 1} → statement M
-stationary-spec = tie.close (tie.spec stationary-requires returns returns-2)
+stationary-spec = tie.close (tie.spec (λ c κs. search needs) returns (λ c. search needs))

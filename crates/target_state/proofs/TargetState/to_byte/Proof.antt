@@ -4,18 +4,6 @@ use Rattle.target_state.proofs.States.{sent-as}
 use Rattle.target_state.proofs.TargetState.to_byte.Statement.{statement}
 use Rattle.target_state.proofs.TargetState.to_byte.Tie as tie
 
-enum-told : tie.Need-enum-told
-enum-told c = search needs
-
-enum-told-2 : tie.Need-enum-told-2
-enum-told-2 c = search needs
-
-enum-told-3 : tie.Need-enum-told-3
-enum-told-3 c = search needs
-
-enum-told-4 : tie.Need-enum-told-4
-enum-told-4 c = search needs
-
 returns : tie.Need-returns
 returns c = sent-as (search needs)
 
@@ -31,4 +19,12 @@ returns-4 c = sent-as (search needs)
 pub to-byte-spec : {M : Type 1} → statement M
 to-byte-spec =
     tie.close
-    (tie.spec enum-told enum-told-2 enum-told-3 enum-told-4 returns returns-2 returns-3 returns-4)
+    (tie.spec
+    (λ c. search needs)
+    (λ c. search needs)
+    (λ c. search needs)
+    (λ c. search needs)
+    returns
+    returns-2
+    returns-3
+    returns-4)

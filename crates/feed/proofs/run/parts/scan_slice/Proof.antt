@@ -1,0 +1,67 @@
+-- `feed::parts::scan_slice` meets its contract. The loop's invariant is `Left`: what is left of the bytes, run from
+-- here, comes to what all of them come to. The measure is their number. Assumes nothing.
+use borrow.Author.Needs.{needs}
+use mathlib.Core.Path.{_≡_, refl, ap}
+use Prim.Native.Nat.{_-_}
+use native.Mathlib.Omega.{arith}
+use lib.ListN.{length}
+use Rattle.stream.specs.Length.{linkLimit}
+use Rattle.step.specs.Slice.{Run, runOf}
+use Rattle.scan.specs.declared.stats.Ended.the-variants.{Nothing}
+use Rattle.step.proofs.Runs.{Left, left-start, left-end, left-frame, left-on}
+use Rattle.feed.proofs.run.parts.scan_slice.Statement.{statement}
+use Rattle.feed.proofs.run.parts.scan_slice.Tie as tie
+
+abbrev Inv-loop : tie.InvT-loop
+Inv-loop buf₀ bytes at₀ counted₀ ended₀ i₀ buf at counted ended i =
+    Left linkLimit (runOf linkLimit at₀ counted₀ buf₀ bytes) at counted buf bytes i × (ended ≡ Nothing)
+
+abbrev μ-loop : tie.MeasureT-loop
+μ-loop buf₀ bytes at₀ counted₀ ended₀ i₀ buf at counted ended i = length bytes - i
+
+loop-holds : tie.Need-loop-holds Inv-loop μ-loop
+loop-holds c = (left-start linkLimit _ _ _ _ (c .before .pre), refl)
+
+take-some-requires : tie.Need-take-some-requires Inv-loop μ-loop
+take-some-requires c κs = (c .before .before .loop .inv .0 .order, omega arith)
+
+loop-less : tie.Need-loop-less Inv-loop μ-loop
+loop-less c = omega (arith, c .before .before .before .before .take-some .ensures)
+
+loop-again : tie.Need-loop-again Inv-loop μ-loop
+loop-again c =
+    let l = c .before .before .before .before .before .before .before .loop in
+    let t = c .before .before .before .before .take-some in (
+      left-on linkLimit (l .at) (l .counted) (l .buf) _ _ (l .i) (l .inv .0) (t .result) (t .last .0) (t .ensures)
+          (c .enum-told2 .given .1),
+      l .inv .1,
+    )
+
+returns : tie.Need-returns Inv-loop μ-loop
+returns c =
+    let l = c .before .loop in
+    let all = left-end linkLimit (l .at) (l .counted) (l .buf) _ _ (l .i) (l .inv .0) (omega arith) in
+    rw (l .inv .1) (ap (λ (x : Run). x .scanned) all, ap (λ (x : Run). x .buf) all)
+
+returns-2 : tie.Need-returns-2 Inv-loop μ-loop
+returns-2 c =
+    let l = c .before .before .before .before .before .before .before .loop in
+    let t = c .before .before .before .before .take-some in
+    let all = left-frame linkLimit (l .at) (l .counted) (l .buf) _ _ (l .i) (l .inv .0) (t .result) (t .last .0)
+    (t .ensures) _ _ (c .enum-told .given .1) in
+    (ap (λ (x : Run). x .scanned) all, ap (λ (x : Run). x .buf) all)
+
+pub scan-slice-spec : {M : Type 1} → statement M
+scan-slice-spec =
+    tie.close
+    (tie.spec
+    Inv-loop
+    μ-loop
+    loop-holds
+    take-some-requires
+    (λ c. search needs)
+    (λ c. search needs)
+    loop-less
+    loop-again
+    returns
+    returns-2)

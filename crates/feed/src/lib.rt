@@ -1,0 +1,11 @@
+// Bytes fed into a lent buffer: a byte's step, the run of a slice; a frame that ended is decoded and counted.
+mod counts;
+mod feeding;
+mod place;
+mod run;
+
+pub use feeding::Moved;
+pub use feeding::MovedSlice;
+pub use feeding::Taken;
+pub use feeding::feed_at;
+pub use feeding::feed_slice_at;

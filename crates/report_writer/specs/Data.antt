@@ -1,0 +1,67 @@
+-- The frame of a report: "report data are `data_type`, AA, nine bytes, an engineering block, 55, 00".
+--   typeOf flag        the type: 01 with an engineering block, 02 without
+--   basicBytes r       the nine basic bytes of the report r
+--   frontOf r          type, AA and the nine basic bytes
+--   highestGates e     `max_moving_gate` and `max_stationary_gate`
+--   movingEnergies e, stationaryEnergies e   the energies of each
+--   reservedBytes e    the reserved bytes
+--   blockOf e          the engineering block
+--   blockIf flag e     the same where the flag is on; nothing where it is off
+--   trailer            55, 00
+--   reportData r       the data
+--   reportFrame r      the frame
+use mathlib.Core.List.{List, [], _∷_, _++_}
+use mathlib.Core.Bool.{Bool, true, false}
+use Prim.Native.Nat.{ℕ, _-_}
+use lib.ListN.{take}
+use Rattle.wire.specs.Number.{leBytes}
+use Rattle.wire.specs.Family.{framed}
+use Rattle.wire.specs.declared.Kind.the-variants as Family
+use Rattle.target_state.specs.State.{byteOf}
+use Rattle.engineering.specs.declared.Engineering.{Engineering}
+use Rattle.report.specs.declared.Report.{Report}
+
+-- "R6 `data_type` is 01 or 02; R7 for 02, nothing after the nine; R8 for 01, the block fits"
+abbrev pub typeOf : Bool → ℕ
+typeOf true = 0x01
+typeOf false = 0x02
+
+-- "nine bytes (state; moving distance, two bytes; energy; stationary distance, two; energy; detection distance, two)"
+abbrev pub basicBytes : Report → List ℕ
+basicBytes r =
+    byteOf (r .state)
+    ∷ (leBytes 2 (r .«moving_distance_cm») ++ (r .«moving_energy»
+    ∷ (leBytes 2 (r .«stationary_distance_cm») ++ (r .«stationary_energy»
+    ∷ leBytes 2 (r .«detection_distance_cm»)))))
+
+unfoldable pub frontOf : Report → List ℕ
+frontOf r = typeOf (r .«has_engineering») ∷ 0xAA ∷ basicBytes r
+
+-- "The block is `max_moving_gate`, `max_stationary_gate`, that many plus one energies of each, then reserved bytes"
+abbrev pub highestGates : Engineering → List ℕ
+highestGates e = (e .«moving_gates» - 1) ∷ (e .«stationary_gates» - 1) ∷ []
+
+abbrev pub movingEnergies : Engineering → List ℕ
+movingEnergies e = take (e .«moving_gates») (e .«moving_energy»)
+
+abbrev pub stationaryEnergies : Engineering → List ℕ
+stationaryEnergies e = take (e .«stationary_gates») (e .«stationary_energy»)
+
+abbrev pub reservedBytes : Engineering → List ℕ
+reservedBytes e = take (e .«extra_len») (e .extra)
+
+unfoldable pub blockOf : Engineering → List ℕ
+blockOf e = highestGates e ++ (movingEnergies e ++ (stationaryEnergies e ++ reservedBytes e))
+
+abbrev pub blockIf : Bool → Engineering → List ℕ
+blockIf true e = blockOf e
+blockIf false e = []
+
+abbrev pub trailer : List ℕ
+trailer = 0x55 ∷ 0x00 ∷ []
+
+unfoldable pub reportData : Report → List ℕ
+reportData r = frontOf r ++ (blockIf (r .«has_engineering») (r .engineering) ++ trailer)
+
+abbrev pub reportFrame : Report → List ℕ
+reportFrame r = framed Family.Report (reportData r)

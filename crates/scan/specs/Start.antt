@@ -1,0 +1,65 @@
+-- What the counters count, and a byte tried as the first of a header.
+--   went c st          the frame in progress goes on, at c
+--   abandoned st n     the counters after a frame in progress of n bytes was given up
+--   startOf st b       the byte b, tried as the first of a header
+--   counted b st       the counters after a whole frame, by whether it decodes
+--   takingOf s n       the step s as what was scanned, its byte the last of n
+use mathlib.Core.Bool.{Bool, true, false}
+use Prim.Native.Nat.{ℕ}
+use Rattle.wire.specs.Counter.{bumped}
+use Rattle.wire.specs.Family.{startingWith}
+use Rattle.wire.specs.declared.MaybeKind.{MaybeKind}
+use Rattle.wire.specs.declared.MaybeKind.the-variants.{Some, None}
+use Rattle.scan.specs.Scan.{at, hunting}
+use Rattle.scan.specs.declared.State.the-variants.{Header}
+use Rattle.scan.specs.declared.Scan.{Scan}
+use Rattle.scan.specs.declared.stats.Stats.{Stats}
+use Rattle.scan.specs.declared.stats.Ended.the-variants.{Nothing}
+use Rattle.scan.specs.declared.stats.Stepped.{Stepped}
+use Rattle.scan.specs.declared.stats.Scanned.{Scanned}
+
+abbrev pub went : Scan → Stats → Stepped
+went c st = record { scan = c; stats = st; ended = Nothing }
+
+-- n bytes more were dropped
+abbrev pub dropping : Stats → ℕ → Stats
+dropping st n = record {
+  frames = st .frames;
+  resyncs = st .resyncs;
+  dropped = bumped (st .dropped) n;
+  malformed = st .malformed;
+}
+
+-- "`resyncs` counts broken starts. `dropped` counts stray bytes and the bytes of broken starts."
+unfoldable pub abandoned : Stats → ℕ → Stats
+abandoned st n = record {
+  frames = st .frames;
+  resyncs = bumped (st .resyncs) 1;
+  dropped = bumped (st .dropped) n;
+  malformed = st .malformed;
+}
+
+abbrev pub startAs : Stats → MaybeKind → Stepped
+startAs st (Some k) = went (at Header k 1 0 0) st
+startAs st None = went hunting (dropping st 1)
+
+unfoldable pub startOf : Stats → ℕ → Stepped
+startOf st b = startAs st (startingWith b)
+
+-- "`frames` counts whole frames that decode, `malformed` those that don't"
+abbrev pub counted : Bool → Stats → Stats
+counted true st = record {
+  frames = bumped (st .frames) 1;
+  resyncs = st .resyncs;
+  dropped = st .dropped;
+  malformed = st .malformed;
+}
+counted false st = record {
+  frames = st .frames;
+  resyncs = st .resyncs;
+  dropped = st .dropped;
+  malformed = bumped (st .malformed) 1;
+}
+
+abbrev pub takingOf : Stepped → ℕ → Scanned
+takingOf s n = record { scan = s .scan; stats = s .stats; ended = s .ended; taken = n }

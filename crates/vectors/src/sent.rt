@@ -1,0 +1,19 @@
+// Rows about commands. A row is a line with the bytes written and the buffer that the encoder left, each of whose bytes
+// was EE before.
+use crate::text::bytes;
+use crate::text::number;
+use crate::text::text;
+use ld2410::Command;
+use ld2410::WriteResult;
+
+// The command, written into a buffer that takes the longest frame.
+pub fn sent(label: &[u8], command: Command) {
+    text(label);
+    let mut out: [u8; 30] = [0xEE; 30];
+    match command.encode(&mut out) {
+        WriteResult::Ok(n) => number(b", sent %:", n as u64),
+        WriteResult::Err(e) => number(b", refused %:", e.number() as u64),
+    }
+    bytes(&out);
+    text(b"\n");
+}

@@ -1,0 +1,62 @@
+-- Copies of a byte string into another: the cases of how much fits.
+use mathlib.Core.Path.{_≡_, _∙_}
+use mathlib.Core.List.{List, [], _∷_, append-nil}
+use Prim.Native.Nat.{ℕ, zero, suc, _+_, _-_, _≤_, _<_, min}
+use native.Mathlib.Nat.{zero-add, sub-zero}
+use native.Mathlib.Numerals.{add-one}
+use native.Mathlib.Omega.{arith}
+use lib.ListN.{length, take, drop, set, getD, replicate, length-replicate, drop-of-length-le}
+use lib.Seq.{take-nil, drop-nil, paste-zero, paste-suc}
+use Rattle.wire.specs.Prefix.{over, pasted, prefixed, padded}
+
+min-suc : (m n : ℕ) → min (suc m) (suc n) ≡ suc (min m n)
+min-suc m n = omega arith
+
+-- No byte copied, and one more.
+pub over-nil : (d : List ℕ) (i : ℕ) (s : List ℕ) → d ≡ over d i s 0
+unfolding over
+over-nil d i s = paste-zero d i s
+
+pub over-more : (d : List ℕ) (i : ℕ) (s : List ℕ) (n : ℕ) → i + n < length d → n < length s
+    → set (over d i s n) (i + n) (getD s n 0) ≡ over d i s (n + 1)
+unfolding over
+over-more d i s n h k = rw (add-one n) (paste-suc d i s n 0 h k)
+
+-- As many as fit are copied; where there is no place, none.
+pub pasted-over : (d : List ℕ) (i : ℕ) (s : List ℕ) (n : ℕ) → n ≡ min (length d - i) (length s)
+    → over d i s n ≡ pasted d i s
+unfolding pasted
+pasted-over d i s n e = rw e
+
+pub pasted-nil : (d : List ℕ) (i : ℕ) (s : List ℕ) → length d ≤ i → d ≡ pasted d i s
+pasted-nil d i s h = over-nil d i s ∙ pasted-over d i s 0 (omega arith)
+
+-- As many bytes as fit are as many as `take` takes, and what is after them is what `drop` leaves.
+pub take-least : (m : ℕ) (s : List ℕ) → take (min m (length s)) s ≡ take m s
+take-least m [] = simp take-nil
+take-least zero (b ∷ s) = let z : min 0 (suc (length s)) ≡ 0 = omega arith in rw z
+take-least (suc m) (b ∷ s) = rw (min-suc m (length s), take-least m s)
+
+drop-least : (d : List ℕ) (n : ℕ) → drop (min (length d) n) d ≡ drop n d
+drop-least [] n = simp drop-nil
+drop-least (b ∷ d) zero = let z : min (suc (length d)) 0 ≡ 0 = omega arith in rw z
+drop-least (b ∷ d) (suc n) = rw (min-suc (length d) n, drop-least d n)
+
+pub pasted-front : (d s : List ℕ) → pasted d 0 s ≡ prefixed d s
+unfolding over pasted prefixed
+pasted-front d s =
+    rw (sub-zero, zero-add, take-least (length d) s, drop-least d (length s))
+
+drop-replicate : (m n : ℕ) → drop m (replicate {A = ℕ} n 0) ≡ replicate (n - m) 0
+drop-replicate zero n = rw sub-zero
+drop-replicate (suc m) zero = let z : 0 - suc m ≡ 0 = omega arith in rw z
+drop-replicate (suc m) (suc n) = let z : suc n - suc m ≡ n - m = omega arith in rw z (drop-replicate m n)
+
+pub prefixed-zeros : (n : ℕ) (s : List ℕ) → prefixed (replicate n 0) s ≡ padded n s
+unfolding prefixed padded
+prefixed-zeros n s = rw (length-replicate {A = ℕ} n 0, drop-replicate (length s) n)
+
+-- A copy that fills the place it is made to.
+pub prefixed-full : (d s : List ℕ) → length d ≤ length s → prefixed d s ≡ take (length d) s
+unfolding prefixed
+prefixed-full d s h = rw (drop-of-length-le d h, append-nil)

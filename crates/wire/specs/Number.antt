@@ -1,0 +1,46 @@
+-- Numbers on the wire: "two- and four-byte numbers are little-endian".
+--   little bs        the number that the bytes bs are, the first the least
+--   leBytes n x      the n bytes of the number x, the least first
+--   numberAt n s i   the number in the n bytes of s from place i, if they are all there
+--   byteAt, le16At, le32At   the same at one, two and four bytes, as the code's answers
+use mathlib.Core.List.{List, [], _∷_}
+use mathlib.Core.Bool.{Bool, true, false}
+use mathlib.Core.Option.{Option, none, some}
+use Prim.Native.Nat.{ℕ, zero, suc, _+_, _*_, _/_, _%_}
+use lib.Dec.{leb}
+use lib.ListN.{length, take, drop}
+use Rattle.wire.specs.declared.number.MaybeU8.{MaybeU8}
+use Rattle.wire.specs.declared.number.MaybeU8.the-variants as U8
+use Rattle.wire.specs.declared.number.MaybeU16.{MaybeU16}
+use Rattle.wire.specs.declared.number.MaybeU16.the-variants as U16
+use Rattle.wire.specs.declared.number.MaybeU32.{MaybeU32}
+use Rattle.wire.specs.declared.number.MaybeU32.the-variants as U32
+
+abbrev pub little : List ℕ → ℕ
+little [] = 0
+little (b ∷ bs) = b + 256 * little bs
+
+abbrev pub leBytes : ℕ → ℕ → List ℕ
+leBytes zero x = []
+leBytes (suc n) x = x % 256 ∷ leBytes n (x / 256)
+
+abbrev pub ifThere : {A : Type 0} → Bool → A → Option A
+ifThere true a = some a
+ifThere false a = none
+
+abbrev pub numberAt : ℕ → List ℕ → ℕ → Option ℕ
+numberAt n s i = ifThere (leb (i + n) (length s)) (little (take n (drop i s)))
+
+-- The code's answer for a number that may be missing, by its two variants.
+abbrev pub answered : {M : Type 0} → (ℕ → M) → M → Option ℕ → M
+answered there missing (some x) = there x
+answered there missing none = missing
+
+unfoldable pub byteAt : List ℕ → ℕ → MaybeU8
+byteAt s i = answered U8.Some U8.None (numberAt 1 s i)
+
+unfoldable pub le16At : List ℕ → ℕ → MaybeU16
+le16At s i = answered U16.Some U16.None (numberAt 2 s i)
+
+unfoldable pub le32At : List ℕ → ℕ → MaybeU32
+le32At s i = answered U32.Some U32.None (numberAt 4 s i)

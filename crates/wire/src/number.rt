@@ -1,0 +1,82 @@
+// Numbers: read from bytes, little-endian, and counters that stop at their most.
+//
+// Every function is total: what may be missing is a variant of its answer.
+ghost use mathlib.Core.Path.{_≡_};
+ghost use Prim.Native.Nat.{min};
+ghost use Rattle.wire.specs.Number.{byteAt, le16At, le32At};
+ghost use Rattle.wire.specs.Counter.{bumped};
+
+// Where a counter stops.
+const COUNTER_MAX: u32 = 4_294_967_295;
+
+// A number read from the wire, if its bytes are all there.
+pub enum MaybeU8 {
+    Some(u8),
+    None,
+}
+
+pub enum MaybeU16 {
+    Some(u16),
+    None,
+}
+
+pub enum MaybeU32 {
+    Some(u32),
+    None,
+}
+
+// The byte at `at`, or `None` where the slice is too short.
+pub fn byte_at(bytes: &[u8], at: usize) -> MaybeU8
+    ensures read { λ r. ⌜ r ≡ byteAt (now (bytes .entry)) at ⌝ }
+{
+    if at < bytes.len() {
+        MaybeU8::Some(bytes[at])
+    } else {
+        MaybeU8::None
+    }
+}
+
+// Little-endian `u16` at `at`, or `None` where the slice is too short.
+pub fn le16(bytes: &[u8], at: usize) -> MaybeU16
+    ensures read { λ r. ⌜ r ≡ le16At (now (bytes .entry)) at ⌝ }
+{
+    let MaybeU8::Some(low) = byte_at(bytes, at) else {
+        return MaybeU16::None;
+    };
+    let MaybeU8::Some(high) = byte_at(bytes, at + 1) else {
+        return MaybeU16::None;
+    };
+    MaybeU16::Some(low as u16 + 256 * (high as u16))
+}
+
+// Little-endian `u32` at `at`, or `None` where the slice is too short.
+pub fn le32(bytes: &[u8], at: usize) -> MaybeU32
+    ensures read { λ r. ⌜ r ≡ le32At (now (bytes .entry)) at ⌝ }
+{
+    let MaybeU16::Some(low) = le16(bytes, at) else {
+        return MaybeU32::None;
+    };
+    let MaybeU16::Some(high) = le16(bytes, at + 2) else {
+        return MaybeU32::None;
+    };
+    MaybeU32::Some(low as u32 + 65536 * (high as u32))
+}
+
+// The counter after `by` more, which stops at `COUNTER_MAX`.
+pub fn bump(counter: u32, by: usize) -> u32
+    ensures counted { λ r. ⌜ r ≡ bumped counter by ⌝ }
+{
+    let room = COUNTER_MAX - counter;
+    if by <= room as usize {
+        counter + by as u32
+    } else {
+        COUNTER_MAX
+    }
+}
+
+// The smaller of two numbers.
+pub fn least(a: usize, b: usize) -> usize
+    ensures chosen { λ r. ⌜ r ≡ min a b ⌝ }
+{
+    if a <= b { a } else { b }
+}

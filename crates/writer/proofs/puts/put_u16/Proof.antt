@@ -1,0 +1,11 @@
+-- `writer::put_u16` meets its contract: the bytes put are the number's two. Assumes nothing.
+use borrow.Author.Needs.{needs}
+use Rattle.writer.proofs.puts.put_u16.Statement.{statement}
+use Rattle.writer.proofs.puts.put_u16.Tie as tie
+
+returns : tie.Need-returns
+returns c = rw (c .before .before .before .before .before .u16-bytes .ensures) at (c .before .before .put .ensures)
+
+pub put-u16-spec : {M : Type 1} → statement M
+put-u16-spec =
+    tie.close (tie.spec (λ c κs. search needs) (λ c. search needs) (λ c κs. search needs) (λ c. search needs) returns)
