@@ -29,7 +29,7 @@ pub fn report(digest: u64, r: &Report) -> u64 {
     }
 }
 
-/// The payload begins behind the word and the status.
+/// The payload begins after the word and the status.
 fn ack(digest: u64, a: &Ack) -> u64 {
     let d = mix(digest, a.word as u64 ^ (a.status as u64) << 16 ^ (a.ok as u64) << 32);
     mix(d, 4 ^ (a.payload.len() as u64) << 32)

@@ -1,4 +1,4 @@
-/// Access for the comparison, put behind the unchanged text of the original: its parser's private fields, by the
+/// Access for the comparison, put after the unchanged text of the original: its parser's private fields, by the
 /// numbers of docs/REPLAY.md.
 pub mod access {
     use super::{Kind, Parser, State, Stats, MAX_FRAME};

@@ -23,7 +23,7 @@ impl Case<'_> {
 
 /// What stands at the front of an input.
 pub enum Next<'a> {
-    /// A case, and the input behind it.
+    /// A case, and the input after it.
     Case(Case<'a>, &'a [u8]),
     End,
     Short,

@@ -93,7 +93,7 @@ impl Tally {
 fn name(case: Option<Case<'_>>, expected: &str, got: &str) {
     match case {
         Some(case) => println!("  case:     op {}, {}", case.op, shown(case.argument)),
-        None => println!("  case:     none, behind the last answer"),
+        None => println!("  case:     none, after the last answer"),
     }
     println!("  expected: {}", expected.trim_end());
     println!("  got:      {}", got.trim_end());

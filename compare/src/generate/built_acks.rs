@@ -85,7 +85,7 @@ fn at_start(bytes: &mut [u8], start: u64) -> Option<&mut [u8; 2]> {
     bytes.get_mut(usize::try_from(start).ok()?..)?.first_chunk_mut()
 }
 
-/// Arguments that end before, at and behind the last fixed field.
+/// Arguments that end before, at and after the last fixed field.
 fn short_arguments(cases: &mut Cases<'_>) {
     let built = BuiltAck { word: 0x00FF, ok: 1, status: 0, span: (0, 4), awaited: 0x00FF, bytes: &[1, 0, 64, 0] };
     let argument = built.argument();

@@ -32,8 +32,8 @@ pub fn argument(parser: &ParserFields, script: &[u8]) -> Vec<u8> {
 }
 
 /// A parser that stands for the first `taken` bytes of a frame of at most 54 data bytes; the fields that its state
-/// does not use, and the buffer behind the data, are what they were.
-pub fn behind(frame: &[u8], taken: usize, mut parser: ParserFields) -> ParserFields {
+/// does not use, and the buffer after the data, are what they were.
+pub fn after(frame: &[u8], taken: usize, mut parser: ParserFields) -> ParserFields {
     let data = published::data(frame);
     parser.kind = u8::from(frame[0] == COMMAND.header[0]);
     match taken {
@@ -122,14 +122,14 @@ fn positions(len: usize) -> [usize; 6] {
     [0, 1, len.wrapping_sub(1), len, len.wrapping_add(1), usize::MAX]
 }
 
-/// Published frames, each begun at every place and finished, cut short or broken; streams of frames behind any parser.
+/// Published frames, each begun at every place and finished, cut short or broken; streams of frames after any parser.
 fn every_place_of_a_frame(cases: &mut Cases<'_>) {
     let mut frames = published::all();
     frames.retain(|frame| frame[0] == REPORT.header[0] || frame[0] == COMMAND.header[0]);
     let b = published::bytes(published::B);
     for frame in frames {
         for taken in 0..frame.len() {
-            let parser = behind(&frame, taken, any_fields(&mut cases.random));
+            let parser = after(&frame, taken, any_fields(&mut cases.random));
             let rest = &frame[taken..];
             cases.add(&argument(&parser, &script(&[Call::Slice(rest), Call::Slice(&b)])));
             cases.add(&argument(&parser, &by_bytes(&rest[..rest.len().min(2)])));
@@ -142,7 +142,7 @@ fn every_place_of_a_frame(cases: &mut Cases<'_>) {
     }
 }
 
-/// A parser behind a part of a frame, now and then with one field changed, or any parser; then the rest of the
+/// A parser after a part of a frame, now and then with one field changed, or any parser; then the rest of the
 /// frame and a stream.
 fn any_parser(random: &mut Random) -> Vec<u8> {
     let frame = if random.once_in(3) { framed(random) } else { good_frame(random) };
@@ -159,7 +159,7 @@ fn any_parser(random: &mut Random) -> Vec<u8> {
         return argument(&parser, &script_after(&frame, random));
     }
     let taken = random.below(frame.len());
-    let mut parser = behind(&frame, taken, parser);
+    let mut parser = after(&frame, taken, parser);
     if random.once_in(4) {
         match random.below(4) {
             0 => parser.matched = random.pick(&MATCHED),

@@ -12,16 +12,16 @@ pub const MAX_GATES: [u8; 12] = [0, 1, 2, 3, 4, 5, 6, 7, 8, 9, 10, 255];
 pub const BOUNDARY_LENGTHS: [usize; 26] =
     [0, 1, 2, 3, 4, 5, 6, 7, 8, 9, 10, 11, 12, 13, 14, 53, 54, 55, 254, 255, 256, 257, 258, 259, 260, 261];
 
-/// Report data: type, AA, nine basic bytes, what stands behind them, 55, 00.
-pub fn report_data(data_type: u8, basic: [u8; 9], behind: &[u8]) -> Vec<u8> {
-    [&[data_type, 0xAA], &basic[..], behind, &[0x55, 0x00]].concat()
+/// Report data: type, AA, nine basic bytes, what stands after them, 55, 00.
+pub fn report_data(data_type: u8, basic: [u8; 9], after: &[u8]) -> Vec<u8> {
+    [&[data_type, 0xAA], &basic[..], after, &[0x55, 0x00]].concat()
 }
 
-/// An engineering block with `reserved` bytes behind its energies, or, below 0, so many energies missing.
+/// An engineering block with `reserved` bytes after its energies, or, below 0, so many energies missing.
 pub fn block(max_moving: u8, max_stationary: u8, reserved: isize, random: &mut Random) -> Vec<u8> {
     let energies = usize::from(max_moving) + usize::from(max_stationary) + 2;
-    let behind = random.bytes(energies.saturating_add_signed(reserved));
-    [&[max_moving, max_stationary], &behind[..]].concat()
+    let after = random.bytes(energies.saturating_add_signed(reserved));
+    [&[max_moving, max_stationary], &after[..]].concat()
 }
 
 /// Data that pass every check.

@@ -82,7 +82,7 @@ fn every_short_string(cases: &mut Cases<'_>) {
     }
 }
 
-/// Every pair of length bytes behind each header, with a byte that starts a header and a stray one behind them.
+/// Every pair of length bytes after each header, with a byte that starts a header and a stray one after them.
 fn every_length_pair(cases: &mut Cases<'_>) {
     for family in [REPORT, COMMAND] {
         for pair in 0..=u16::MAX {
@@ -106,7 +106,7 @@ fn every_slice_length(stream: &[u8], emit: &mut dyn FnMut(&[u8])) {
     }
 }
 
-/// The stream with a reset behind every one of its bytes in turn, and with two.
+/// The stream with a reset after every one of its bytes in turn, and with two.
 fn reset_at_every_place(stream: &[u8], emit: &mut dyn FnMut(&[u8])) {
     for place in 0..=stream.len() {
         let (front, back) = stream.split_at(place);
@@ -181,17 +181,17 @@ fn any_script(random: &mut Random) -> Vec<u8> {
 pub fn mixed_calls(stream: &[u8], random: &mut Random) -> Vec<u8> {
     let mut script = Vec::new();
     let mut rest = stream;
-    while let [first, behind @ ..] = rest {
+    while let [first, after @ ..] = rest {
         match random.below(12) {
             0..=3 => {
                 Call::Feed(*first).write(&mut script);
-                rest = behind;
+                rest = after;
             }
             4 if random.once_in(3) => Call::Reset.write(&mut script),
             _ => {
-                let (slice, behind) = rest.split_at(random.below(64).min(rest.len()));
+                let (slice, after) = rest.split_at(random.below(64).min(rest.len()));
                 Call::Slice(slice).write(&mut script);
-                rest = behind;
+                rest = after;
             }
         }
     }

@@ -5,7 +5,7 @@ use ld2410::Stats;
 
 use crate::generate::acks::ack_data;
 use crate::generate::damage::plain_damage;
-use crate::generate::parsers::{argument, behind};
+use crate::generate::parsers::{argument, after};
 use crate::generate::random::Random;
 use crate::generate::streams::{base_streams, by_bytes, by_slices, mixed_calls, stream};
 use crate::model::families::{COMMAND, REPORT};
@@ -36,7 +36,7 @@ fn rows() -> Vec<Vec<u8>> {
     rows
 }
 
-/// Acknowledgements around the limits of 2 and 54 data bytes, each behind a stray byte.
+/// Acknowledgements around the limits of 2 and 54 data bytes, each after a stray byte.
 fn limits() -> Vec<Vec<u8>> {
     let data = ack_data(0x01FF, 0, &[0x5A; 60]);
     let lengths = [0, 1, 2, 3, 4, 5, 53, 54, 55, 56];
@@ -108,7 +108,7 @@ pub fn built_parsers(random: &mut Random) -> Vec<Vec<u8>> {
     let b = published::bytes(published::B);
     for frame in [&b, &published::bytes(published::ACKS[0])] {
         for taken in 0..frame.len() {
-            let parser = behind(frame, taken, fresh.clone());
+            let parser = after(frame, taken, fresh.clone());
             all.push(argument(&parser, &script(&[Call::Slice(&frame[taken..]), Call::Slice(&b)])));
         }
     }

@@ -72,7 +72,7 @@ struct Stream<'a> {
     /// The bytes taken, a stretch for each reset and one more.
     stretches: Vec<Vec<u8>>,
     /// How much of the last stretch is divided: all but an unfinished end. More bytes do not change these pieces,
-    /// since each depends on its own bytes and the one behind it.
+    /// since each depends on its own bytes and the one after it.
     divided: usize,
 }
 
@@ -144,7 +144,7 @@ impl Stream<'_> {
     }
 }
 
-/// Where a payload's start is counted from: the parser's buffer holds the data, which stand behind header and length.
+/// Where a payload's start is counted from: the parser's buffer holds the data, which stand after header and length.
 fn buffer_base(frame: &[u8]) -> usize {
     address(&frame[6..])
 }

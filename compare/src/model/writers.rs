@@ -14,7 +14,7 @@ pub struct Written {
     pub count: usize,
 }
 
-/// Puts a value's frame at the front of the buffer; the bytes behind it, and a buffer that is refused, stay.
+/// Puts a value's frame at the front of the buffer; the bytes after it, and a buffer that is refused, stay.
 pub fn put(frame: Option<Vec<u8>>, buffer: &mut [u8]) -> Written {
     let Some(frame) = frame else {
         return Written { refusal: UNREADABLE, count: 0 };

@@ -68,7 +68,7 @@ fn target_states_and_reports() -> Vec<Mutant> {
         Mutant::numbers(2, "light is there without reserved bytes", |_, line| {
             line[LIGHT] = line[FLAG];
         }),
-        Mutant::argument(2, "a basic report may go on behind the nine bytes", |data| {
+        Mutant::argument(2, "a basic report may go on after the nine bytes", |data| {
             if data.first() == Some(&2) && data.len() > 13 {
                 data.drain(11..data.len() - 2);
             }
@@ -117,7 +117,7 @@ fn acks_and_frames() -> Vec<Mutant> {
                 line[56] = 4;
             }
         }),
-        Mutant::argument(5, "bytes behind the tail are ignored", |bytes| {
+        Mutant::argument(5, "bytes after the tail are ignored", |bytes| {
             if let [_, _, _, _, low, high, ..] = bytes[..] {
                 bytes.truncate(10 + usize::from(u16::from_le_bytes([low, high])));
             }

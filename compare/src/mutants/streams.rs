@@ -30,7 +30,7 @@ fn divisions(op: u8) -> Vec<Mutant> {
             (Piece::BrokenStart, length) if length > 6 => (Piece::BrokenStart, 1),
             piece => piece,
         }),
-        divided("a broken start is dropped with the byte behind it", |rest| match next_piece(rest, LIMIT) {
+        divided("a broken start is dropped with the byte after it", |rest| match next_piece(rest, LIMIT) {
             (Piece::BrokenStart, length @ 1..4) => (Piece::BrokenStart, length + 1),
             piece => piece,
         }),

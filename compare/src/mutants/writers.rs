@@ -27,10 +27,10 @@ fn encoder() -> Vec<Mutant> {
                 (line[1], line[2]) = (4, 30);
             }
         }),
-        Mutant::numbers(6, "a byte behind the frame is touched", |argument, line| {
+        Mutant::numbers(6, "a byte after the frame is touched", |argument, line| {
             if accepted(line) && buffer_length(argument) as u64 > line[2] {
-                let behind = BUFFER + line[2] as usize;
-                line[behind] = 0;
+                let after = BUFFER + line[2] as usize;
+                line[after] = 0;
             }
         }),
         Mutant::numbers(6, "a refused call writes a byte", |argument, line| {
@@ -143,7 +143,7 @@ fn ack_writer() -> Vec<Mutant> {
 
 fn command_reader() -> Vec<Mutant> {
     vec![
-        Mutant::argument(9, "bytes behind the frame are ignored", |bytes| {
+        Mutant::argument(9, "bytes after the frame are ignored", |bytes| {
             if let [_, _, _, _, low, high, ..] = bytes[..] {
                 bytes.truncate(10 + usize::from(u16::from_le_bytes([low, high])));
             }

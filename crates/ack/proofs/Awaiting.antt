@@ -26,21 +26,21 @@ clash e f = absurd (true≢false (sym e ∙ f))
 
 -- What `expect` answers tells how every reply is judged.
 judged-ok : (same ok : Bool) (p : Span) {q : Span} → spanAs (judged same ok true) p ≡ Spanned.Ok q
-    → ((fits : Bool) → judged same ok fits ≡ judged true true fits) × (q ≡ p)
+    → ((readable : Bool) → judged same ok readable ≡ judged true true readable) × (q ≡ p)
 judged-ok false ok p e = let z : _≡_ {A = ℕ} 0 1 = cc in absurd (omega arith)
 judged-ok true false p e = let z : _≡_ {A = ℕ} 0 1 = cc in absurd (omega arith)
-judged-ok true true p e = (λ fits. refl, cc)
+judged-ok true true p e = (λ readable. refl, cc)
 
 judged-err : (same ok : Bool) (p : Span) {e : Error} → spanAs (judged same ok true) p ≡ Spanned.Err e
-    → (fits : Bool) → judged same ok fits ≡ Err e
-judged-err false ok p q fits = cc
-judged-err true false p q fits = cc
-judged-err true true p q fits = let z : _≡_ {A = ℕ} 0 1 = cc in absurd (omega arith)
+    → (readable : Bool) → judged same ok readable ≡ Err e
+judged-err false ok p q readable = cc
+judged-err true false p q readable = cc
+judged-err true true p q readable = let z : _≡_ {A = ℕ} 0 1 = cc in absurd (omega arith)
 
 module _ (a : Ack) (w : ℕ) {A : Type 0} (z v : A) where
-  judged-causes : (same ok fits : Bool) → eqb (a .word) w ≡ same → a .ok ≡ ok
-      → AwaitedCauses z a w fits (returned z (judged same ok fits) v)
-  judged-causes false ok fits e f =
+  judged-causes : (same ok readable : Bool) → eqb (a .word) w ≡ same → a .ok ≡ ok
+      → AwaitedCauses z a w readable (returned z (judged same ok readable) v)
+  judged-causes false ok readable e f =
       let other : a .word ≢ w = eqb-false (a .word) w e in
       record {
         accepted = (λ n. absurd (omega arith), λ h. absurd (other (h .0)));
@@ -49,7 +49,7 @@ module _ (a : Ack) (w : ℕ) {A : Type 0} (z v : A) where
         total = inr (inl refl);
         blank = λ n. refl;
       }
-  judged-causes true false fits e f =
+  judged-causes true false readable e f =
       let same = eqb-true (a .word) w e in
       record {
         accepted = (λ n. absurd (omega arith), λ h. clash (h .1) f);
@@ -78,9 +78,9 @@ module _ (a : Ack) (w : ℕ) {A : Type 0} (z v : A) where
       }
 
   -- Whoever awaits a word gives each number exactly in its cause, and 0 in every other field.
-  pub awaited-causes : (fits : Bool) → AwaitedCauses z a w fits (returned z (awaited a w fits) v)
+  pub awaited-causes : (readable : Bool) → AwaitedCauses z a w readable (returned z (awaited a w readable) v)
   unfolding awaited
-  awaited-causes fits = judged-causes (eqb (a .word) w) (a .ok) fits refl refl
+  awaited-causes readable = judged-causes (eqb (a .word) w) (a .ok) readable refl refl
 
 -- What `expect` answers.
 module _ (a : Ack) (w : ℕ) where
@@ -107,33 +107,29 @@ module _ (a : Ack) (w : ℕ) where
   expected-whole e =
       (sym e, rw (← e, span-returned (awaited a w true)) (awaited-causes a w noSpan (a .payload) true))
 
--- The answer to an acknowledgement, where `give` tells what an answer returns.
-module _ {A B : Type 0} (z : A) (answer : Outcome → A → B) (give : B → Returned A)
-    (give-answer : (o : Outcome) (v : A) → give (answer o v) ≡ returned z o v)
-    (r : Reply A) (a : Ack) (s : List ℕ) where
-  abbrev read : A
-  read = r .value (payloadIn s (a .payload))
-
-  -- Both clauses of its contract.
-  abbrev Whole : B → Type 0
-  Whole b = (b ≡ replied answer r a s) × ReplyCauses z r a s (give b)
-
-  whole : {b : B} → b ≡ replied answer r a s → Whole b
-  unfolding replied
-  whole e = (e, rw (e, give-answer) (awaited-causes a (r .word) z read (r .fits (payloadIn s (a .payload)))))
-
-  -- Where `expect` gives the payload, it is read.
-  pub replied-read : {x : SpanResult} {b : B} {p : Span} {q : List ℕ} → x ≡ expected a (r .word) → x ≡ Spanned.Ok p
-      → q ≡ payloadIn s p → b ≡ readAs answer r q → Whole b
+-- The answer to an acknowledgement, by what `expect` answers: where it gives the payload, this is read; where it
+-- refuses, so does the reply.
+module _ {A B : Type 0} (answer : Outcome → A → B) (r : Reply A) (a : Ack) (s : List ℕ) (x : SpanResult) (b : B) where
+  pub replied-read : (p : Span) (q : List ℕ) → x ≡ expected a (r .word) → x ≡ Spanned.Ok p → q ≡ payloadIn s p
+      → b ≡ readAs answer r q → b ≡ replied answer r a s
   unfolding expected awaited readAs replied
-  replied-read e t f g =
+  replied-read p q e t f g =
       let told = judged-ok (eqb (a .word) (r .word)) (a .ok) (a .payload) (sym e ∙ t) in
-      whole (rw (g, f, told .1, told .0 (r .fits (payloadIn s (a .payload)))))
+      rw (g, f, told .1, told .0 (r .readable (payloadIn s (a .payload))))
 
-  -- Where `expect` refuses, so does the reply.
-  pub replied-refused : {x : SpanResult} {b : B} {d e : Error} → x ≡ expected a (r .word) → x ≡ Spanned.Err e
-      → d ≡ errorIn x → b ≡ answer (Err d) read → Whole b
+  pub replied-refused : (d e : Error) → x ≡ expected a (r .word) → x ≡ Spanned.Err e → d ≡ errorIn x
+      → b ≡ answer (Err d) (r .value (payloadIn s (a .payload))) → b ≡ replied answer r a s
   unfolding expected awaited replied
-  replied-refused e t f g =
-      let told = judged-err (eqb (a .word) (r .word)) (a .ok) (a .payload) (sym e ∙ t) in
-      whole (rw (g, f, t, told (r .fits (payloadIn s (a .payload)))))
+  replied-refused d e q t f g =
+      let told = judged-err (eqb (a .word) (r .word)) (a .ok) (a .payload) (sym q ∙ t) in
+      rw (g, f, t, told (r .readable (payloadIn s (a .payload))))
+
+-- Both clauses of its contract, where `give` tells what an answer returns.
+pub replied-whole : {A B : Type 0} (z : A) (answer : Outcome → A → B) (give : B → Returned A)
+    → ((o : Outcome) (v : A) → give (answer o v) ≡ returned z o v)
+    → (r : Reply A) (a : Ack) (s : List ℕ) {b : B} → b ≡ replied answer r a s
+    → (b ≡ replied answer r a s) × ReplyCauses z r a s (give b)
+unfolding replied
+replied-whole z answer give given r a s e =
+    let p = payloadIn s (a .payload) in
+    (e, rw (e, given) (awaited-causes a (r .word) z (r .value p) (r .readable p)))

@@ -1,13 +1,13 @@
 -- Awaiting an acknowledgement, and reading its payload as the reply.
---   awaited a w fits    the outcome where the word w is awaited and a is given, whose payload is readable or not
---   AwaitedCauses z a w fits r   each number is returned by r exactly in its cause, and beside it every other field is
---                       0; z is the value that is all 0
---   expected a w        the answer of `expect`
---   errorIn x           the refusal that such an answer holds
---   noSpan              every field 0
---   returnedSpan x      the number and the values that such an answer returns
---   replied answer r a s   the answer to the acknowledgement a, read from the bytes s, where the reply r is awaited
---   ReplyCauses z r a s b  the same of each number, where that answer returns b
+--   awaited a w readable    the outcome where the word w is awaited and a is given, whose payload is readable or not
+--   AwaitedCauses z a w readable r   each number is returned by r exactly in its cause, and beside it every other field
+--                           is 0; z is the value that is all 0
+--   expected a w            the answer of `expect`
+--   errorIn x               the refusal that such an answer holds
+--   noSpan                  every field 0
+--   returnedSpan x          the number and the values that such an answer returns
+--   replied answer r a s    the answer to the acknowledgement a, read from the bytes s, where the reply r is awaited
+--   ReplyCauses z r a s b   the same of each number, where that answer returns b
 use mathlib.Core.Path.{_≡_}
 use mathlib.Core.Logic.{_≢_, _↔_, _⊎_}
 use mathlib.Core.List.{List}
@@ -27,13 +27,13 @@ use Rattle.ack.specs.declared.SpanResult.{SpanResult}
 use Rattle.ack.specs.declared.SpanResult.the-variants as Spanned
 
 unfoldable pub awaited : Ack → ℕ → Bool → Outcome
-awaited a w fits = judged (eqb (a .word) w) (a .ok) fits
+awaited a w readable = judged (eqb (a .word) w) (a .ok) readable
 
-pub record AwaitedCauses {A : Type 0} (z : A) (a : Ack) (w : ℕ) (fits : Bool) (r : Returned A) : Type 0 where
+pub record AwaitedCauses {A : Type 0} (z : A) (a : Ack) (w : ℕ) (readable : Bool) (r : Returned A) : Type 0 where
   -- nothing is refused exactly if the word is the awaited one, `ok` is on and the payload readable
-  pub accepted : r .number ≡ 0 ↔ (a .word ≡ w) × (a .ok ≡ true) × (fits ≡ true)
+  pub accepted : r .number ≡ 0 ↔ (a .word ≡ w) × (a .ok ≡ true) × (readable ≡ true)
   -- 1 is given exactly for another word, or with `ok` on for a payload that is not readable
-  pub invalid : r .number ≡ 1 ↔ (a .word ≢ w) ⊎ ((a .word ≡ w) × (a .ok ≡ true) × (fits ≡ false))
+  pub invalid : r .number ≡ 1 ↔ (a .word ≢ w) ⊎ ((a .word ≡ w) × (a .ok ≡ true) × (readable ≡ false))
   -- 3 is given exactly for the awaited word with `ok` off
   pub hardware : r .number ≡ 3 ↔ (a .word ≡ w) × (a .ok ≡ false)
   -- and nothing else is given
@@ -64,7 +64,7 @@ returnedSpan (Spanned.Err e) = refused noSpan e
 module _ {A B : Type 0} (answer : Outcome → A → B) (r : Reply A) where
   unfoldable pub replied : Ack → List ℕ → B
   replied a s =
-      answer (awaited a (r .word) (r .fits (payloadIn s (a .payload)))) (r .value (payloadIn s (a .payload)))
+      answer (awaited a (r .word) (r .readable (payloadIn s (a .payload)))) (r .value (payloadIn s (a .payload)))
 
 abbrev pub ReplyCauses : {A : Type 0} → A → Reply A → Ack → List ℕ → Returned A → Type 0
-ReplyCauses z r a s b = AwaitedCauses z a (r .word) (r .fits (payloadIn s (a .payload))) b
+ReplyCauses z r a s b = AwaitedCauses z a (r .word) (r .readable (payloadIn s (a .payload))) b

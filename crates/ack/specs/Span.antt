@@ -1,16 +1,12 @@
 -- Where a payload stands in bytes.
 --   payloadIn s p       the bytes of the payload that stands at the span p in the bytes s
 use mathlib.Core.List.{List, []}
-use mathlib.Core.Bool.{Bool, true, false}
+use mathlib.Core.Bool.{cond}
 use Prim.Native.Nat.{ℕ, _+_}
 use lib.Dec.{leb}
 use lib.ListN.{length, take, drop}
 use Rattle.ack.specs.declared.span.Span.{Span}
 
 -- "a payload not inside them counts as empty"
-abbrev pub ifInside : Bool → List ℕ → List ℕ
-ifInside true p = p
-ifInside false p = []
-
 unfoldable pub payloadIn : List ℕ → Span → List ℕ
-payloadIn s p = ifInside (leb (p .start + p .len) (length s)) (take (p .len) (drop (p .start) s))
+payloadIn s p = cond (leb (p .start + p .len) (length s)) (take (p .len) (drop (p .start) s)) []

@@ -5,14 +5,16 @@ mod span;
 
 use refusal::Check;
 use refusal::Error;
-use reply::EnableConfig;
 use reply::EnableConfigResult;
-use reply::FirmwareVersion;
 use reply::FirmwareVersionResult;
-use reply::Mac;
 use reply::MacResult;
-use reply::Parameters;
 use reply::ParametersResult;
+use reply::read_enable_config;
+use reply::read_firmware_version;
+use reply::read_mac;
+use reply::read_parameters;
+use reply::refused_mac;
+use reply::refused_parameters;
 pub use span::Span;
 use span::payload;
 use wire::ACK_BIT;
@@ -70,37 +72,13 @@ impl SpanResult {
 }
 
 impl Ack {
-    // Reads an acknowledgement's data by the checks A1 and A2: the acknowledgement, or the first check that fails.
-    pub fn checked(data: &[u8]) -> CheckedAck
-        ensures read { λ r. ⌜ r ≡ checkedAck (now («data» .entry)) ⌝ }
-    {
-        let MaybeU16::Some(raw) = le16(data, 0) else {
-            return CheckedAck::Failed(Check::A1);
-        };
-        let MaybeU16::Some(status) = le16(data, 2) else {
-            return CheckedAck::Failed(Check::A1);
-        };
-        if raw / ACK_BIT % 2 == 0 {
-            return CheckedAck::Failed(Check::A2);
-        }
-        CheckedAck::Ok(Ack {
-            word: raw - ACK_BIT,
-            ok: status == 0,
-            status,
-            payload: Span {
-                start: 4,
-                len: data.len() - 4,
-            },
-        })
-    }
-
     // Reads the data of a command frame as an acknowledgement. Refusal 1 where they are shorter than four bytes, or the
     // ACK bit is not set (a command of the host).
     pub fn parse(data: &[u8]) -> AckResult
         ensures parsed { λ r. ⌜ r ≡ parsedAck (now («data» .entry)) ⌝ }
         ensures causes { λ r. ⌜ Causes noAck ackChecks (now («data» .entry)) (returnedAck r) ⌝ }
     {
-        match Ack::checked(data) {
+        match checked_ack(data) {
             CheckedAck::Ok(ack) => AckResult::Ok(ack),
             CheckedAck::Failed(check) => AckResult::Err(check.error()),
         }
@@ -133,7 +111,7 @@ impl Ack {
         let SpanResult::Ok(span) = awaited else {
             return EnableConfigResult::Err(awaited.error());
         };
-        EnableConfig::read(payload(bytes, span))
+        read_enable_config(payload(bytes, span))
     }
 
     // Reads the reply to `READ_FIRMWARE`. Refusals as `enable_config`.
@@ -145,7 +123,7 @@ impl Ack {
         let SpanResult::Ok(span) = awaited else {
             return FirmwareVersionResult::Err(awaited.error());
         };
-        FirmwareVersion::read(payload(bytes, span))
+        read_firmware_version(payload(bytes, span))
     }
 
     // Reads the reply to `READ_PARAMETERS`. Refusals as `enable_config`, and 1 where the payload does not begin with AA
@@ -157,9 +135,9 @@ impl Ack {
     {
         let awaited = self.expect(word::READ_PARAMETERS);
         let SpanResult::Ok(span) = awaited else {
-            return ParametersResult::refused(awaited.error());
+            return refused_parameters(awaited.error());
         };
-        Parameters::read(payload(bytes, span))
+        read_parameters(payload(bytes, span))
     }
 
     // Reads the reply to `READ_MAC`. Refusals as `enable_config`.
@@ -169,8 +147,32 @@ impl Ack {
     {
         let awaited = self.expect(word::READ_MAC);
         let SpanResult::Ok(span) = awaited else {
-            return MacResult::refused(awaited.error());
+            return refused_mac(awaited.error());
         };
-        Mac::read(payload(bytes, span))
+        read_mac(payload(bytes, span))
     }
+}
+
+// Reads an acknowledgement's data by the checks A1 and A2: the acknowledgement, or the first check that fails.
+pub fn checked_ack(data: &[u8]) -> CheckedAck
+    ensures read { λ r. ⌜ r ≡ checkedAck (now («data» .entry)) ⌝ }
+{
+    let MaybeU16::Some(raw) = le16(data, 0) else {
+        return CheckedAck::Failed(Check::A1);
+    };
+    let MaybeU16::Some(status) = le16(data, 2) else {
+        return CheckedAck::Failed(Check::A1);
+    };
+    if raw / ACK_BIT % 2 == 0 {
+        return CheckedAck::Failed(Check::A2);
+    }
+    CheckedAck::Ok(Ack {
+        word: raw - ACK_BIT,
+        ok: status == 0,
+        status,
+        payload: Span {
+            start: 4,
+            len: data.len() - 4,
+        },
+    })
 }

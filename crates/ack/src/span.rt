@@ -10,7 +10,7 @@ pub struct Span {
 
 // The bytes of a payload; none where the span is not inside `bytes`. A span may hold any two numbers, whose sum need
 // not fit, so its start and its length are compared one by one.
-pub fn payload<'a>(bytes: &'a [u8], span: Span) -> &'a [u8]
+pub(crate) fn payload<'a>(bytes: &'a [u8], span: Span) -> &'a [u8]
     ensures found { λ r. ⌜ now r ≡ payloadIn (now (bytes .entry)) span ⌝ }
 {
     let start = span.start;

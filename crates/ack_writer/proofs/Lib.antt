@@ -1,9 +1,5 @@
--- Laws about the definitions, which the proofs of this crate and of the crates above cite.
--- The data of an acknowledgement: their length, and that three puts lay them in an array.
-pub mod Filling
--- For which frames the reader gives an acknowledgement, and which.
-pub mod Reading
--- What is read is written again, and what is written is read back.
+-- Laws about the definitions, which the proofs of this crate cite.
+-- The data of an acknowledgement, put, read and made again.
+pub mod AckData
+-- What is written is read back, and what is read is written again.
 pub mod RoundTrip
--- What the writer answers and leaves.
-pub mod Answers

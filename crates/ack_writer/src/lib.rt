@@ -12,7 +12,7 @@ use writer::put_u16;
 ghost use mathlib.Core.Path.{_≡_};
 ghost use mathlib.Core.Bool.{false};
 ghost use lib.ListN.{length};
-ghost use Rattle.writer.specs.Written.{answerOf, bufferAfter, WriteCauses};
+ghost use Rattle.writer.specs.Written.{writeResult, bufferAfter, WriteCauses};
 ghost use Rattle.writer.specs.RoundTrip.{RoundTrip};
 ghost use Rattle.ack_writer.specs.Frame.{ackFrame, writable, unrepresentable};
 ghost use Rattle.ack_writer.specs.RoundTrip.{ackValue, acks};
@@ -40,7 +40,7 @@ fn writable(word: u16, ok: bool, status: u16, payload: &[u8]) -> bool
 // that the reader cannot give, then with 4 a buffer shorter than the frame. Bytes after the frame stay, and a refused
 // call changes none.
 pub fn write_ack(out: &mut [u8], word: u16, ok: bool, status: u16, payload: &[u8]) -> WriteResult
-    ensures told { λ r. ⌜ r ≡ answerOf (unrepresentable word ok status (now (payload .entry)))
+    ensures told { λ r. ⌜ r ≡ writeResult (unrepresentable word ok status (now (payload .entry)))
         (ackFrame word status (now (payload .entry))) (length (now (out .entry))) ⌝ }
     ensures left { λ _. ⌜ now (out .exit) ≡ bufferAfter (unrepresentable word ok status (now (payload .entry)))
         (ackFrame word status (now (payload .entry))) (now (out .entry)) ⌝ }

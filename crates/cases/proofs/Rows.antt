@@ -9,31 +9,29 @@ use lib.ListN.{length}
 use Rattle.wire.specs.Counter.{bumped}
 use Rattle.wire.specs.Equal.{sameBytes}
 use Rattle.wire.specs.Family.{headerOf, framed}
+use Rattle.wire.proofs.Bytes.{every-append}
 use Rattle.target_state.specs.State.{stateOf}
 use Rattle.report.specs.Report.{reportOf}
 use Rattle.ack.specs.Ack.{ackOf}
 use Rattle.frame.specs.Frame.{decoded, checkedFrame}
 use Rattle.framing.specs.Piece.{Piece}
 use Rattle.framing.proofs.Framing.{Divides}
-use Rattle.framing.proofs.Division.{division-over}
 use Rattle.framing.proofs.Scanner.{pieces}
 use Rattle.framing.proofs.Scanned.{division-exists}
-use Rattle.engine.specs.Bytes.{Every}
 use Rattle.engine.specs.Calls.{Did, feeds}
 use Rattle.stream.proofs.Scan.{reads, opens, wholes}
 use Rattle.stream.proofs.Link.{link}
-use Rattle.stream.proofs.Linked.{opens-are, wholes-are}
 use Rattle.stream.specs.Deliver.{Answer, decodes}
-use Rattle.scan.specs.Scan.{inOrder, settled, unfinishedBy}
+use Rattle.scan.specs.Scan.{wellFormed, orReset, unfinishedBy}
 use Rattle.scan.specs.Start.{abandoned, startOf}
 use Rattle.step.specs.Step.{stepOf, stored}
 use Rattle.step.specs.Slice.{runOf}
 use Rattle.parser.specs.Feed.{fresh, feedOf, feedSliceOf, unfinishedOf}
 use Rattle.feed.specs.Moved.{bufOf, movedOf, sliceBufOf, sliceMovedOf}
 use Rattle.parser.specs.Claims.{did, left}
-use Rattle.writer.specs.Written.{answerOf, bufferAfter, written}
+use Rattle.writer.specs.Written.{writeResult, bufferAfter, written}
 use Rattle.command.specs.Command.{commandFrame, encodable, unsupported}
-use Rattle.cursor.specs.Request.{dataWith}
+use Rattle.cursor.specs.CommandFrame.{dataWith}
 use Rattle.command_reader.specs.Read.{is-command}
 use Rattle.command_reader.specs.declared.CommandResult.the-variants as Read
 use Rattle.cases.specs.Row.{Numbers, addedUp, countedBy, Stream, StreamHolds, Run, RunHolds}
@@ -42,7 +40,7 @@ use Rattle.cases.specs.Streams.{streams}
 use Rattle.cases.specs.Runs.{runs}
 use Rattle.cases.specs.Commands.{commands}
 use Rattle.cases.specs.Claims.{AllHold}
-use Rattle.cases.proofs.Agree.{agree, every-map, every-of, every-append}
+use Rattle.cases.proofs.Agree.{rows-hold}
 
 -- A stream's pieces and numbers, as computed and as the row says.
 record Found : Type 0 where
@@ -61,20 +59,17 @@ abbrev said : Stream → Found
 said r = record { pieces = r .pieces; added = r .numbers; counted = r .numbers }
 
 streams-computed : map found streams ≡ map said streams
-unfolding reads opens wholes decodes checkedFrame headerOf sameBytes decoded inOrder settled abandoned startOf stepOf
+unfolding reads opens wholes decodes checkedFrame headerOf sameBytes decoded wellFormed orReset abandoned startOf stepOf
     stored bufOf movedOf feedOf unfinishedOf unfinishedBy bumped
 streams-computed = refl
 
 stream-holds : (r : Stream) → found r ≡ said r → StreamHolds r
 stream-holds r e = record {
-  divided = division-over (opens-are 54) (wholes-are 54) (subst (λ (ps : List Piece). Divides (link 54) (r .bytes) ps)
-      (ap (λ (x : Found). x .pieces) e) (division-exists (link 54) (r .bytes)));
+  divided = subst (λ (ps : List Piece). Divides (link 54) (r .bytes) ps) (ap (λ (x : Found). x .pieces) e)
+      (division-exists (link 54) (r .bytes));
   added = ap (λ (x : Found). x .added) e;
   counted = ap (λ (x : Found). x .counted) e;
 }
-
-streams-hold : Every StreamHolds streams
-streams-hold = every-map stream-holds streams (agree found said streams streams-computed)
 
 -- A run's history and numbers, as computed and as the row says.
 record Ran : Type 0 where
@@ -88,22 +83,19 @@ abbrev told : Run → Ran
 told r = record { history = r .history; numbers = r .numbers }
 
 runs-computed : map ran runs ≡ map told runs
-unfolding decoded reportOf ackOf inOrder settled abandoned startOf stepOf stored bufOf movedOf feedOf runOf
+unfolding decoded reportOf ackOf wellFormed orReset abandoned startOf stepOf stored bufOf movedOf feedOf runOf
     sameBytes stateOf sliceBufOf sliceMovedOf feedSliceOf unfinishedOf unfinishedBy bumped
 runs-computed = refl
 
 run-holds : (r : Run) → ran r ≡ told r → RunHolds r
 run-holds r e = record { done = ap (λ (x : Ran). x .history) e; counted = ap (λ (x : Ran). x .numbers) e }
 
-runs-hold : Every RunHolds runs
-runs-hold = every-map run-holds runs (agree ran told runs runs-computed)
-
 -- A command's row with its answer and its buffer as computed, and as it stands. A row of the reader is so if the
 -- command that it gives encodes to its bytes.
 abbrev done : CommandRow → Bool × CommandRow
 done (encodes c before answer after) = (
   true,
-  encodes c before (answerOf (unsupported c) (commandFrame c) (length before))
+  encodes c before (writeResult (unsupported c) (commandFrame c) (length before))
       (bufferAfter (unsupported c) (commandFrame c) before),
 )
 done (parses s (Read.Ok c)) = (encodable c, parses (commandFrame c) (Read.Ok c))
@@ -113,7 +105,7 @@ abbrev stated : CommandRow → Bool × CommandRow
 stated r = (true, r)
 
 commands-computed : map done commands ≡ map stated commands
-unfolding framed dataWith answerOf bufferAfter written
+unfolding framed dataWith writeResult bufferAfter written
 commands-computed = refl
 
 command-holds : (r : CommandRow) → done r ≡ stated r → CommandHolds r
@@ -124,13 +116,11 @@ command-holds (parses s (Read.Err r)) e =
     let z : _≡_ {A = ℕ} 0 1 = cc in
     absurd (omega arith)
 
-commands-hold : Every CommandHolds commands
-commands-hold = every-map command-holds commands (agree done stated commands commands-computed)
-
 -- The table is made of the three.
 pub all-hold : AllHold
 all-hold =
     every-append Holds (map stream streams) (map run runs ++ map command commands)
-    (every-of Holds stream (λ r h. h) streams streams-hold)
-    (every-append Holds (map run runs) (map command commands) (every-of Holds run (λ r h. h) runs runs-hold)
-    (every-of Holds command (λ r h. h) commands commands-hold))
+    (rows-hold found said stream Holds stream-holds streams streams-computed)
+    (every-append Holds (map run runs) (map command commands)
+    (rows-hold ran told run Holds run-holds runs runs-computed)
+    (rows-hold done stated command Holds command-holds commands commands-computed))

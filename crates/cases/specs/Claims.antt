@@ -2,7 +2,7 @@
 --   table     document 01's streams, runs of calls, and its commands
 --   AllHold   each of its rows holds
 use mathlib.Core.List.{List, _++_, map}
-use Rattle.engine.specs.Bytes.{Every}
+use Rattle.wire.specs.Bytes.{Every}
 use Rattle.cases.specs.Row.{Row, stream, run, command, Holds}
 use Rattle.cases.specs.Streams.{streams}
 use Rattle.cases.specs.Runs.{runs}

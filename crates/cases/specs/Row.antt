@@ -23,7 +23,7 @@ use Rattle.stream.specs.Deliver.{Answer, frames, resyncs, dropped, malformed, a
 use Rattle.parser.specs.Feed.{fresh, unfinishedOf}
 use Rattle.parser.specs.Claims.{did, left}
 use Rattle.parser.specs.declared.Parser.{Parser}
-use Rattle.writer.specs.Written.{answerOf, bufferAfter}
+use Rattle.writer.specs.Written.{writeResult, bufferAfter}
 use Rattle.writer.specs.declared.WriteResult.{WriteResult}
 use Rattle.command.specs.Command.{commandFrame, unsupported}
 use Rattle.command_reader.specs.Read.{ReadTo}
@@ -86,7 +86,7 @@ pub data CommandRow : Type 0 where
 
 -- By the encoder's promises `told` and `left`, and the reader's `read`.
 abbrev pub CommandHolds : CommandRow → Type 0
-CommandHolds (encodes c before answer after) = (answerOf (unsupported c) (commandFrame c) (length before) ≡ answer)
+CommandHolds (encodes c before answer after) = (writeResult (unsupported c) (commandFrame c) (length before) ≡ answer)
     × (bufferAfter (unsupported c) (commandFrame c) before ≡ after)
 CommandHolds (parses s answer) = ReadTo s answer
 

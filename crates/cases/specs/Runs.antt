@@ -3,7 +3,7 @@
 --   acknowledged   the published acknowledgement of `EnableConfig`
 --   bReport        what B is read as: "both targets, 120 cm at 60, 150 cm at 45, detection 200 cm"
 --   enabled        what the acknowledgement is read as, its payload at byte 4 of the buffer
---   full           a parser whose four counters are at their most
+--   full           a parser whose four counters are at their max
 --   runs           the rows
 use mathlib.Core.List.{List, [], _∷_, _++_}
 use mathlib.Core.Bool.{true, false}

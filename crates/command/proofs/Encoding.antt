@@ -1,4 +1,4 @@
--- What the encoder answers and leaves: refused for its values, or as its frame's maker did.
+-- What the encoder answers and leaves: refused for its values, or as the writer of its frame did.
 use mathlib.Core.Path.{_≡_}
 use mathlib.Core.List.{List}
 use mathlib.Core.Bool.{true, false}
@@ -7,20 +7,20 @@ use Prim.Native.Nat.{ℕ}
 use lib.ListN.{length}
 use native.Mathlib.Omega.{arith}
 use Rattle.refusal.specs.declared.Error.the-variants.{Unsupported}
-use Rattle.writer.specs.Written.{answerOf, bufferAfter, WriteCauses}
+use Rattle.writer.specs.Written.{writeResult, bufferAfter, WriteCauses}
 use Rattle.writer.specs.declared.WriteResult.{WriteResult}
 use Rattle.writer.specs.declared.WriteResult.the-variants.{Err}
 use Rattle.writer.proofs.Writers.{Wrote, wrote-refused, shown}
 use Rattle.command.specs.Command.{wordOf, valueOf, commandFrame, encodable, unsupported}
-use Rattle.cursor.specs.Request.{frameWith}
+use Rattle.cursor.specs.CommandFrame.{frameWith}
 use Rattle.command.specs.declared.Command.{Command}
-use Rattle.cursor.specs.declared.maker.Value.{Value}
+use Rattle.cursor.specs.declared.command_frame.Value.{Value}
 
 module _ (c : Command) (out : List ℕ) where
   -- What the encoder has to show: its answer, its buffer and the causes.
   abbrev pub Encoded : WriteResult → List ℕ → Type 0
   Encoded r left =
-      (r ≡ answerOf (unsupported c) (commandFrame c) (length out))
+      (r ≡ writeResult (unsupported c) (commandFrame c) (length out))
       × ((left ≡ bufferAfter (unsupported c) (commandFrame c) out)
       × WriteCauses 2 (encodable c ≡ false) (commandFrame c) (length out) r)
 

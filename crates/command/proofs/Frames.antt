@@ -5,10 +5,10 @@ use Prim.Native.Nat.{ℕ, _≤_}
 use native.Mathlib.Omega.{arith}
 use lib.ListN.{length}
 use borrow.Author.Tests.{le-leb}
-use Rattle.cursor.specs.Request.{sizeWith}
-use Rattle.cursor.specs.declared.maker.Value.{Value}
-use Rattle.cursor.specs.declared.maker.Value.the-variants as Of
-use Rattle.cursor.proofs.Requests.{frame-size}
+use Rattle.cursor.specs.CommandFrame.{sizeWith}
+use Rattle.cursor.specs.declared.command_frame.Value.{Value}
+use Rattle.cursor.specs.declared.command_frame.Value.the-variants as Of
+use Rattle.cursor.proofs.CommandFrame.{frame-size}
 use Rattle.command.specs.Setting.{farthest}
 use Rattle.command.specs.Command.{wordOf, valueOf, commandFrame, encodable}
 use Rattle.command.specs.declared.Command.{Command}

@@ -13,9 +13,9 @@ use Rattle.refusal.specs.declared.Error.{Error}
 use Rattle.refusal.specs.declared.Error.the-variants.{Unsupported}
 use Rattle.writer.specs.Written.{unless}
 use Rattle.command.specs.Setting.{gateValue, gateKnown, farthest, sensitivity, indexOf}
-use Rattle.cursor.specs.Request.{frameWith}
-use Rattle.cursor.specs.declared.maker.Value.{Value}
-use Rattle.cursor.specs.declared.maker.Value.the-variants as Of
+use Rattle.cursor.specs.CommandFrame.{frameWith}
+use Rattle.cursor.specs.declared.command_frame.Value.{Value}
+use Rattle.cursor.specs.declared.command_frame.Value.the-variants as Of
 use Rattle.command.specs.declared.Command.{Command}
 use Rattle.command.specs.declared.Command.the-variants.{EnableConfig, EndConfig, SetMaxGates, ReadParameters}
 use Rattle.command.specs.declared.Command.the-variants.{EngineeringMode, SetSensitivity, ReadFirmware, SetBaud}

@@ -16,8 +16,8 @@ use writer::WriteResult;
 ghost use mathlib.Core.Path.{_≡_};
 ghost use mathlib.Core.Bool.{false};
 ghost use lib.ListN.{length};
-ghost use Rattle.writer.specs.Written.{answerOf, bufferAfter, WriteCauses};
-ghost use Rattle.cursor.specs.Request.{sizeWith};
+ghost use Rattle.writer.specs.Written.{writeResult, bufferAfter, WriteCauses};
+ghost use Rattle.cursor.specs.CommandFrame.{sizeWith};
 ghost use Rattle.command.specs.Command.{wordOf, valueOf, commandFrame, encodable, unsupported};
 
 // A command to the module. Every one but `EnableConfig` is sent between `EnableConfig` and `EndConfig`.
@@ -147,7 +147,7 @@ impl Command {
     // does not take, then with 4 a buffer shorter than the frame. Bytes after the frame stay, and a refused call
     // changes none.
     pub fn encode(self, out: &mut [u8]) -> WriteResult
-        ensures told { λ r. ⌜ r ≡ answerOf (unsupported self) (commandFrame self) (length (now (out .entry))) ⌝ }
+        ensures told { λ r. ⌜ r ≡ writeResult (unsupported self) (commandFrame self) (length (now (out .entry))) ⌝ }
         ensures left { λ _. ⌜ now (out .exit) ≡ bufferAfter (unsupported self) (commandFrame self)
             (now (out .entry)) ⌝ }
         ensures causes { λ r. ⌜ WriteCauses 2 (encodable self ≡ false) (commandFrame self)

@@ -108,14 +108,14 @@ impl Baud {
 }
 
 // Whether a gate may be the farthest: 0 to 8, as the Rust has it; the paper begins at 2.
-pub fn may_be_farthest(gate: u8) -> bool
+pub(crate) fn may_be_farthest(gate: u8) -> bool
     ensures tested { λ r. ⌜ r ≡ farthest gate ⌝ }
 {
     gate <= MAX_GATE
 }
 
 // Whether both values are sensitivities.
-pub fn are_sensitivities(moving: u8, stationary: u8) -> bool
+pub(crate) fn are_sensitivities(moving: u8, stationary: u8) -> bool
     ensures tested { λ r. ⌜ r ≡ (sensitivity moving && sensitivity stationary) ⌝ }
 {
     moving <= MAX_SENSITIVITY && stationary <= MAX_SENSITIVITY

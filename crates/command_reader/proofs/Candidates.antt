@@ -1,18 +1,18 @@
 -- The candidate for the frame of a command that the module takes is that command.
 use mathlib.Core.Path.{_≡_, refl, ap}
 use mathlib.Core.List.{[], _∷_}
-use mathlib.Core.Bool.{true, false, _&&_}
+use mathlib.Core.Bool.{true, false, _&&_, and-eq-true-iff}
 use Prim.Native.Nat.{ℕ, _/_, _%_, _≤_}
 use native.Mathlib.Omega.{arith}
 use lib.Dec.{leb}
 use borrow.Author.Tests.{leb-true, ne-eqb}
 use Rattle.wire.specs.Number.{little, le16At}
 use Rattle.wire.specs.Family.{framed}
-use Rattle.wire.proofs.Equality.{both-true}
+use Rattle.wire.proofs.Bytes.{little-two}
 use Rattle.command.specs.Setting.{gateValue, gateKnown, farthest, sensitivity}
-use Rattle.cursor.specs.Request.{dataWith}
+use Rattle.cursor.specs.CommandFrame.{dataWith}
 use Rattle.command.specs.Command.{commandFrame, encodable}
-use Rattle.command_reader.specs.Asking.{numberIn}
+use Rattle.command_reader.specs.CommandFrame.{numberIn}
 use Rattle.command_reader.specs.Candidate.{gateFor, baudFor, candidate, candidateIn}
 use Rattle.command.specs.declared.setting.Gate.{Gate}
 use Rattle.command.specs.declared.setting.Gate.the-variants.{Index, All}
@@ -24,25 +24,15 @@ use Rattle.command.specs.declared.Command.the-variants.{EnableConfig, EndConfig
 use Rattle.command.specs.declared.Command.the-variants.{EngineeringMode, SetSensitivity, ReadFirmware, SetBaud}
 use Rattle.command.specs.declared.Command.the-variants.{FactoryReset, Restart, Bluetooth, ReadMac}
 
--- A number of at most two bytes is the number that its two lowest bytes are.
-two-bytes : (x : ℕ) → x ≤ 65535 → little (x % 256 ∷ x / 256 % 256 ∷ []) ≡ x
-two-bytes x h = omega arith
-
+-- A number of at most one byte is the lowest byte of the number that its bytes are.
 low-byte : (x : ℕ) → x ≤ 255 → little (x % 256 ∷ x / 256 % 256 ∷ []) % 256 ≡ x
 low-byte x h = omega arith
-
--- What the module takes fits a byte.
-farthest-byte : (i : ℕ) → farthest i ≡ true → i ≤ 255
-farthest-byte i e = omega (arith, leb-true i 8 e)
-
-sensitivity-byte : (x : ℕ) → sensitivity x ≡ true → x ≤ 255
-sensitivity-byte x e = omega (arith, leb-true x 100 e)
 
 gate-back : (g : Gate) → gateKnown g ≡ true → gateFor (little (gateValue g % 256 ∷ gateValue g / 256 % 256 ∷ [])) ≡ g
 unfolding gateFor
 gate-back (Index i) e =
     let h = leb-true i 8 e in
-    rw (two-bytes i (omega arith), ne-eqb i 0xFFFF (λ q. omega arith))
+    rw (little-two i (omega arith), ne-eqb i 0xFFFF (λ q. omega arith))
     (ap Index (omega arith))
 gate-back All e = refl
 
@@ -62,23 +52,23 @@ unfolding candidateIn numberIn le16At candidate framed dataWith
 candidate-written EnableConfig e = refl
 candidate-written EndConfig e = refl
 candidate-written (SetMaxGates m s n) e =
-    let a = both-true (leb n 65535) (farthest m && farthest s) e in
-    let b = both-true (farthest m) (farthest s) (a .1) in
+    let a = and-eq-true-iff (leb n 65535) (farthest m && farthest s) .0 e in
+    let b = and-eq-true-iff (farthest m) (farthest s) .0 (a .1) in
     rw (
-      low-byte m (farthest-byte m (b .0)),
-      low-byte s (farthest-byte s (b .1)),
-      two-bytes n (leb-true n 65535 (a .0)),
+      low-byte m (omega (arith, leb-true m 8 (b .0))),
+      low-byte s (omega (arith, leb-true s 8 (b .1))),
+      little-two n (omega (arith, leb-true n 65535 (a .0))),
     )
 candidate-written ReadParameters e = refl
 candidate-written (EngineeringMode true) e = refl
 candidate-written (EngineeringMode false) e = refl
 candidate-written (SetSensitivity g m s) e =
-    let a = both-true (gateKnown g) (sensitivity m && sensitivity s) e in
-    let b = both-true (sensitivity m) (sensitivity s) (a .1) in
+    let a = and-eq-true-iff (gateKnown g) (sensitivity m && sensitivity s) .0 e in
+    let b = and-eq-true-iff (sensitivity m) (sensitivity s) .0 (a .1) in
     rw (
       gate-back g (a .0),
-      low-byte m (sensitivity-byte m (b .0)),
-      low-byte s (sensitivity-byte s (b .1)),
+      low-byte m (omega (arith, leb-true m 100 (b .0))),
+      low-byte s (omega (arith, leb-true s 100 (b .1))),
     )
 candidate-written ReadFirmware e = refl
 candidate-written (SetBaud b) e = baud-back b

@@ -6,18 +6,19 @@ use native.Mathlib.Omega.{arith}
 use Rattle.wire.specs.Bytes.{Bytes}
 use Rattle.wire.specs.Number.{leBytes}
 use Rattle.refusal.specs.declared.Error.the-variants.{Unsupported}
-use Rattle.writer.proofs.Bytes.{bytes-append, bytes-leBytes, framed-bytes}
+use Rattle.wire.proofs.Bytes.{bytes-append, bytes-leBytes}
+use Rattle.wire.proofs.Framed.{framed-bytes}
 use Rattle.wire.specs.declared.Kind.the-variants as Family
 use Rattle.writer.specs.RoundTrip.{RoundTrip}
 use Rattle.writer.proofs.RoundTrip.{round-trip}
-use Rattle.cursor.specs.Request.{recordBytes, valueBytes, dataWith}
-use Rattle.cursor.specs.declared.maker.Value.{Value}
-use Rattle.cursor.specs.declared.maker.Value.the-variants as Of
+use Rattle.cursor.specs.CommandFrame.{recordBytes, valueBytes, dataWith}
+use Rattle.cursor.specs.declared.command_frame.Value.{Value}
+use Rattle.cursor.specs.declared.command_frame.Value.the-variants as Of
 use Rattle.command.specs.Command.{wordOf, valueOf, encodable}
 use Rattle.command.specs.declared.Command.{Command}
 use Rattle.command_reader.specs.Read.{EncodesTo, ReadTo, is-command, commands}
 use Rattle.command_reader.specs.declared.CommandResult.the-variants.{Ok}
-use Rattle.command_reader.proofs.Answers.{read-causes}
+use Rattle.command_reader.proofs.CommandRead.{read-causes}
 
 -- A command's frame is a byte string.
 record-bytes : (k v : ℕ) → Bytes (recordBytes k v)
@@ -40,11 +41,13 @@ read-encodes s c h = read-causes s h .read c .0 refl
 
 pub commands-agree : (c : Command) → RoundTrip commands c
 commands-agree c =
-    round-trip commands c Unsupported (encodable c) (record {
+    round-trip {e = Unsupported} {good = encodable c} (record {
       refused = refl;
       number = refl;
+      apart = λ z. omega arith;
+      some = λ z. omega arith;
       bytes = λ g. framed-bytes Family.Command (dataWith (wordOf c) (valueOf c)) (data-bytes (wordOf c) (valueOf c));
       written = λ g. record { within = tt; kept = tt; read = is-command c (g, refl) };
       found = λ s b w h. read-encodes s c h .0;
       again = λ s b w k h. sym (read-encodes s c h .1);
-    }) (λ z. omega arith) (λ z. omega arith)
+    })

@@ -18,7 +18,7 @@ use Rattle.command.specs.declared.setting.Baud.{Baud}
 use Rattle.command.specs.declared.setting.Baud.the-variants.{B9600}
 use Rattle.command.specs.declared.setting.MaybeBaud.{MaybeBaud}
 use Rattle.command.specs.declared.setting.MaybeBaud.the-variants as Rate
-use Rattle.command_reader.specs.Asking.{numberIn}
+use Rattle.command_reader.specs.CommandFrame.{numberIn}
 use Rattle.command.specs.Command.{commandFrame, encodable}
 use Rattle.command.specs.declared.Command.{Command}
 use Rattle.command.specs.declared.Command.the-variants.{EnableConfig, EndConfig, SetMaxGates, ReadParameters}

@@ -1,3 +1,3 @@
 pub mod Candidate
 pub mod Read
-pub mod Asking
+pub mod CommandFrame

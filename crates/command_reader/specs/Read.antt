@@ -13,7 +13,7 @@ use mathlib.Core.Option.{Option, none, some}
 use Prim.Native.Nat.{ℕ}
 use Rattle.refusal.specs.Refusal.{Returned, accepted, refused}
 use Rattle.refusal.specs.declared.Error.the-variants.{InvalidFormat, UnknownCommand}
-use Rattle.command_reader.specs.Asking.{Asks}
+use Rattle.command_reader.specs.CommandFrame.{IsCommandFrame}
 use Rattle.writer.specs.RoundTrip.{Codec}
 use Rattle.command.specs.Command.{commandFrame, encodable, unsupported}
 use Rattle.command.specs.declared.Command.{Command}
@@ -27,9 +27,9 @@ pub data ReadTo (s : List ℕ) : CommandResult → Type 0 where
   -- a reader of command frames
   is-command : (c : Command) → EncodesTo c s → ReadTo s (Ok c)
   -- "framed, ACK bit clear, word present, yet no command encodes to these bytes"
-  is-unknown : Asks s → ((c : Command) → EncodesTo c s → ⊥) → ReadTo s (Err UnknownCommand)
+  is-unknown : IsCommandFrame s → ((c : Command) → EncodesTo c s → ⊥) → ReadTo s (Err UnknownCommand)
   -- "gives 1 for framing, for a report header, for data under two bytes and for a set ACK bit"
-  is-invalid : (Asks s → ⊥) → ReadTo s (Err InvalidFormat)
+  is-invalid : (IsCommandFrame s → ⊥) → ReadTo s (Err InvalidFormat)
 
 abbrev pub OneAnswer : List ℕ → Type 0
 OneAnswer s = (p q : CommandResult) → ReadTo s p → ReadTo s q → p ≡ q
@@ -43,8 +43,8 @@ pub record ReadCauses (s : List ℕ) (r : CommandResult) : Type 0 where
   pub read : (c : Command) → (returnedRead r ≡ accepted (some c)) ↔ EncodesTo c s
   pub unique : (b c : Command) → EncodesTo b s → EncodesTo c s → b ≡ c
   -- 1 is given exactly to what is no such frame, 5 exactly to such a frame to which no command encodes
-  pub invalid : (returnedRead r .number ≡ 1) ↔ (Asks s → ⊥)
-  pub unknown : (returnedRead r .number ≡ 5) ↔ Asks s × ((c : Command) → EncodesTo c s → ⊥)
+  pub invalid : (returnedRead r .number ≡ 1) ↔ (IsCommandFrame s → ⊥)
+  pub unknown : (returnedRead r .number ≡ 5) ↔ IsCommandFrame s × ((c : Command) → EncodesTo c s → ⊥)
   -- and nothing else is given
   pub total : (returnedRead r .number ≡ 0) ⊎ ((returnedRead r .number ≡ 1) ⊎ (returnedRead r .number ≡ 5))
   -- "number, other fields 0"

@@ -1,16 +1,16 @@
 // The reader of command frames: the command that encodes to the bytes.
 //
 // The word and the values in a frame leave one command that may encode to it: the reader encodes it, and compares.
-mod asking;
+mod command_frame;
 
-use asking::asks;
-use asking::number_in;
 use command::Baud;
 use command::Command;
 use command::Gate;
 use command::MaybeBaud;
+use command_frame::is_command_frame;
+use command_frame::number_in;
 use refusal::Error;
-use wire::same;
+use wire::bytes_eq;
 use wire::word;
 use writer::WriteResult;
 ghost use mathlib.Core.Path.{_≡_};
@@ -110,7 +110,7 @@ fn if_encodes_to(command: Command, bytes: &[u8]) -> CommandResult
     let WriteResult::Ok(n) = command.encode(&mut frame) else {
         return CommandResult::Err(Error::UnknownCommand);
     };
-    if same(&frame[..n], bytes) {
+    if bytes_eq(&frame[..n], bytes) {
         CommandResult::Ok(command)
     } else {
         CommandResult::Err(Error::UnknownCommand)
@@ -126,7 +126,7 @@ pub fn read_command(bytes: &[u8]) -> CommandResult
     ensures causes { λ r. ⌜ ReadCauses (now (bytes .entry)) r ⌝ }
     ensures round { λ _. ⌜ ((c : Command) → RoundTrip commands c) ⌝ }
 {
-    if !asks(bytes) {
+    if !is_command_frame(bytes) {
         return CommandResult::Err(Error::InvalidFormat);
     }
     if_encodes_to(candidate_in(bytes), bytes)

@@ -2,14 +2,14 @@
 -- those of the line.
 use mathlib.Core.Path.{_∙_, ap}
 use mathlib.Core.List.{List, [], _++_}
-use Prim.Native.Nat.{ℕ, _+_}
+use Prim.Native.Nat.{ℕ}
 use native.Mathlib.Omega.{arith}
 use lib.ListN.{length}
+use Rattle.wire.specs.Bytes.{Bytes}
 use Rattle.stream.specs.Length.{linkLimit}
 use Rattle.framing.specs.Piece.{Piece}
 use Rattle.framing.specs.Division.{cut}
 use Rattle.framing.specs.Tally.{sum}
-use Rattle.engine.specs.Bytes.{Bytes}
 use Rattle.engine.specs.Calls.{feeds}
 use Rattle.engine.specs.Fulfilled.{sumOver}
 use Rattle.engine.proofs.Feeds.{feeds-bytes, feeds-so-far, feeds-stretch}

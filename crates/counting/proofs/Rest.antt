@@ -5,23 +5,25 @@ use mathlib.Core.Path.{_≡_, refl, _∙_}
 use mathlib.Core.List.{List}
 use Prim.Native.Nat.{ℕ, _+_, _≤_, _<_}
 use native.Mathlib.Omega.{arith}
-use lib.ListN.{length, getD, take, drop, length-drop, drop-of-length-le}
+use lib.ListN.{length, getD, drop, length-drop, drop-of-length-le}
 use lib.Seq.{drop-drop, getD-drop}
+use Rattle.wire.proofs.Bytes.{bytes-at}
 use Rattle.stream.specs.Length.{linkLimit}
 use Rattle.engine.specs.Calls.{feeds}
-use Rattle.engine.proofs.Bytes.{bytes-at}
 use Rattle.feed.specs.Moved.{sliceMovedOf, sliceBufOf}
 use Rattle.feed.specs.declared.feeding.MovedSlice.{MovedSlice}
 use Rattle.parser.specs.Feed.{put, feedSliceOf}
 use Rattle.parser.specs.Claims.{left}
 use Rattle.parser.specs.declared.Parser.{Parser}
 use Rattle.parser.specs.declared.FedSlice.{FedSlice}
-use Rattle.counting.proofs.Slices.{slice-taken, slice-fed}
+use Rattle.parser.proofs.Feeding.{Valid}
+use Rattle.counting.proofs.Slices.{First, slice-first}
 use Rattle.counting.proofs.Appended.{left-split}
 
 pub record Rest (p q : Parser) (bs : List ℕ) (i : ℕ) : Type 0 where
   pub inside : i ≤ length bs
   pub same : left q (feeds (drop i bs)) ≡ left p (feeds bs)
+  pub valid : Valid linkLimit q
 
 -- A slice fed to a parser's parts leaves, and answers, what a slice feed of the parser does.
 abbrev pub handed : List ℕ → MovedSlice → FedSlice
@@ -34,8 +36,8 @@ pub parts-fed : (p : Parser) (bs rest buf : List ℕ) (m : MovedSlice)
 unfolding feedSliceOf
 parts-fed p bs rest buf m e f g = rw (e, f, g)
 
-pub rest-start : (p : Parser) (bs : List ℕ) → Rest p p bs 0
-rest-start p bs = record { inside = omega arith; same = refl }
+pub rest-start : (p : Parser) (bs : List ℕ) → Valid linkLimit p → Rest p p bs 0
+rest-start p bs v = record { inside = omega arith; same = refl; valid = v }
 
 module _ (p q : Parser) (bs : List ℕ) (i : ℕ) (h : Rest p q bs i) where
   pub rest-end : length bs ≤ i → q ≡ left p (feeds bs)
@@ -44,23 +46,18 @@ module _ (p q : Parser) (bs : List ℕ) (i : ℕ) (h : Rest p q bs i) where
   -- A slice feed of what is left takes some of it, and goes on from there.
   module _ (inner : i < length bs) (bytes : (j : ℕ) → getD bs j 0 < 256) (fed : FedSlice)
       (e : fed ≡ feedSliceOf linkLimit q (drop i bs)) where
-    some : 0 < length (drop i bs)
-    some = omega (arith, length-drop i bs)
-
-    taken : (0 < fed .answer .count) × (fed .answer .count ≤ length (drop i bs))
-    taken = rw e (slice-taken linkLimit q (drop i bs) some)
-
-    fed-first : fed .parser ≡ left q (feeds (take (fed .answer .count) (drop i bs)))
-    fed-first =
+    taken : First q (drop i bs) fed
+    taken =
         let rest = bytes-at (drop i bs) (λ j l. rw getD-drop (bytes (i + j))) in
-        rw e (slice-fed linkLimit q (drop i bs) some rest)
+        rw e (slice-first q (h .valid) (drop i bs) (omega (arith, length-drop i bs)) rest)
 
     pub rest-further : (0 < fed .answer .count) × Rest p (fed .parser) bs (i + fed .answer .count)
     rest-further = (
-      taken .0,
+      taken .some,
       record {
-        inside = omega (arith, taken .1, length-drop i bs);
-        same = rw (← drop-drop (fed .answer .count) i bs, fed-first) (left-split q (fed .answer .count) (drop i bs))
+        inside = omega (arith, taken .inside, length-drop i bs);
+        same = rw (← drop-drop (fed .answer .count) i bs, taken .first) (left-split q (fed .answer .count) (drop i bs))
             ∙ h .same;
+        valid = taken .valid;
       },
     )

@@ -1,94 +1,71 @@
 -- A slice feed leaves the parser that its first bytes leave, fed one by one: as many as it tells, and at least one of a
--- slice that has any. It needs no more of the parser than its definition, so a parser out of range is no exception.
---   leaves r           the parser that a run of the scanner leaves
---   leftBy most p bs   the parser that the bytes bs leave of p, fed one by one
-use mathlib.Core.Path.{_≡_, refl, sym, ap, _∙_}
+-- slice that has any.
+--   First p bs r   so of what a slice feed gave, r: the number that it tells, and the parser
+use mathlib.Core.Path.{_≡_, refl, sym, subst}
 use mathlib.Core.List.{List, [], _∷_}
-use mathlib.Core.Bool.{true}
+use mathlib.Core.Option.{Option, none, some}
 use Prim.Native.Nat.{ℕ, suc, _≤_, _<_}
 use native.Mathlib.Omega.{arith}
 use lib.ListN.{length, take}
-use Rattle.engine.specs.Bytes.{Bytes}
+use Rattle.wire.specs.Bytes.{Bytes}
+use Rattle.framing.proofs.Scanner.{step}
 use Rattle.engine.specs.Calls.{feeds}
-use Rattle.engine.specs.Engine.{final}
-use Rattle.scan.specs.Scan.{inOrder, settled}
-use Rattle.step.specs.Step.{stepOf, stored}
-use Rattle.step.specs.Slice.{Run, runAt, thenRun, runOf}
-use Rattle.feed.specs.Moved.{emitted, bufOf, movedOf, sliceBufOf, sliceMovedOf}
-use Rattle.parser.specs.Feed.{put, feedOf, feedSliceOf}
-use Rattle.parser.specs.Engine.{engine}
-use Rattle.scan.specs.declared.Scan.{Scan}
-use Rattle.scan.specs.declared.stats.Stats.{Stats}
+use Rattle.engine.specs.Engine.{Sliced}
+use Rattle.engine.proofs.Lawful.{stopIf, feedUntil}
+use Rattle.stream.specs.Length.{linkLimit}
+use Rattle.stream.specs.Deliver.{Answer}
+use Rattle.stream.proofs.Link.{link}
+use Rattle.stream.proofs.Decoding.{decoding}
+use Rattle.parser.specs.Feed.{feedSliceOf}
+use Rattle.parser.specs.Engine.{pendingBy, engine}
+use Rattle.parser.specs.Claims.{left}
 use Rattle.parser.specs.declared.Parser.{Parser}
-use Rattle.scan.specs.declared.stats.Ended.{Ended}
-use Rattle.scan.specs.declared.stats.Ended.the-variants.{Frame, Nothing}
-use Rattle.scan.specs.declared.stats.Stepped.{Stepped}
-use Rattle.step.proofs.Onwards.{step-order}
-use Rattle.scan.proofs.Orders.{settled-order, settled-same}
+use Rattle.parser.specs.declared.FedSlice.{FedSlice}
+use Rattle.parser.proofs.Feeding.{Valid}
+use Rattle.parser.proofs.Engines.{lawful, slice-until}
+use Rattle.parser.proofs.Demand.{small}
 
-abbrev leaves : Run → Parser
-leaves r =
-    let m = emitted (r .scanned .ended) (r .scanned .scan) (r .scanned .stats) (r .buf) in
-    put (r .buf) (m .scan) (m .stats)
+abbrev until : Parser → List ℕ → Sliced Parser Answer
+until p bs = feedUntil (link linkLimit) decoding (engine linkLimit) p bs
 
-abbrev stepped : Scan → Stats → Ended → Stepped
-stepped c st e = record { scan = c; stats = st; ended = e }
+-- What is told is taken of bs, and what it leaves is the state.
+abbrev Taken : Parser → List ℕ → Sliced Parser Answer → Type 0
+Taken p bs s = (s .told ≤ length bs) × (s .state ≡ left p (feeds (take (s .told) bs)))
 
-abbrev pub leftBy : ℕ → Parser → List ℕ → Parser
-leftBy limit p bs = final (engine limit) p (feeds bs)
+-- By whether the byte b ended a frame, with what the bytes after it do.
+stop-taken : (o : Option (List ℕ)) (p : Parser) (b : ℕ) (bs : List ℕ) (a : Answer) (s : Sliced Parser Answer)
+    → let q = engine linkLimit .feed p b .0 in Taken q bs s
+    → let r = stopIf {R = Sliced Parser Answer} o (record { state = q; told = 1; answer = a })
+    (record { state = s .state; told = suc (s .told); answer = s .answer }) in (0 < r .told) × Taken p (b ∷ bs) r
+stop-taken (some f) p b bs a s h = (omega arith, (omega arith, refl))
+stop-taken none p b bs a s h = (omega arith, (omega (arith, h .0), h .1))
 
--- A run takes no more than there is, and of some bytes at least one.
-then-taken : (e : Ended) (r : Stepped) (left : List ℕ) (others : Run) (n : ℕ) → others .scanned .taken ≤ n
-    → (0 < thenRun e r left others .scanned .taken) × (thenRun e r left others .scanned .taken ≤ suc n)
-then-taken (Frame k m) r left others n h = (omega arith, omega arith)
-then-taken Nothing r left others n h = (omega arith, omega arith)
+until-some : (p : Parser) (b : ℕ) (bs : List ℕ) → let q = engine linkLimit .feed p b .0 in Taken q bs (until q bs)
+    → let r = until p (b ∷ bs) in (0 < r .told) × Taken p (b ∷ bs) r
+until-some p b bs h =
+    let q = engine linkLimit .feed p b in
+    stop-taken (step (link linkLimit) (pendingBy linkLimit p) b .ended) p b bs (q .1) (until (q .0) bs) h
 
-module _ (limit : ℕ) where
-  run-taken : (bs : List ℕ) (c : Scan) (st : Stats) (buf : List ℕ) → runOf limit c st buf bs .scanned .taken ≤ length bs
-  unfolding runOf
-  run-taken [] c st buf = omega arith
-  run-taken (b ∷ bs) c st buf =
-      let x = stepOf limit c st b in
-      then-taken (x .ended) x (stored c buf b) _ (length bs) (run-taken bs (x .scan) (x .stats) (stored c buf b)) .1
+until-taken : (bs : List ℕ) (p : Parser) → Taken p bs (until p bs)
+until-taken [] p = (omega arith, refl)
+until-taken (b ∷ bs) p = until-some p b bs (until-taken bs (engine linkLimit .feed p b .0)) .1
 
-  pub slice-taken : (p : Parser) (bs : List ℕ) → 0 < length bs
-      → (0 < feedSliceOf limit p bs .answer .count) × (feedSliceOf limit p bs .answer .count ≤ length bs)
-  unfolding feedSliceOf sliceMovedOf runOf
-  slice-taken p [] some = absurd (omega arith)
-  slice-taken p (b ∷ bs) some =
-      let c = settled limit (p .scan) in
-      let x = stepOf limit c (p .stats) b in
-      let left = stored c (p .buf) b in
-      then-taken (x .ended) x left _ (length bs) (run-taken bs (x .scan) (x .stats) left)
+pub record First (p : Parser) (bs : List ℕ) (r : FedSlice) : Type 0 where
+  pub some : 0 < r .answer .count
+  pub inside : r .answer .count ≤ length bs
+  pub first : r .parser ≡ left p (feeds (take (r .answer .count) bs))
+  pub valid : Valid linkLimit (r .parser)
 
-  -- The byte b, by what it ended, with what the bytes after it do.
-  then-fed : (e : Ended) (c : Scan) (st : Stats) (left : List ℕ) (others : Run) (p : Parser) (b : ℕ) (bs : List ℕ)
-      → feedOf limit p b .parser ≡ leaves (runAt c st e 1 left)
-      → (e ≡ Nothing → leaves others ≡ leftBy limit (put left c st) (take (others .scanned .taken) bs))
-      → leaves (thenRun e (stepped c st e) left others)
-      ≡ leftBy limit p (take (thenRun e (stepped c st e) left others .scanned .taken) (b ∷ bs))
-  then-fed (Frame k n) c st left others p b bs f h = sym f
-  then-fed Nothing c st left others p b bs f h =
-      h refl ∙ ap (λ (q : Parser). leftBy limit q (take (others .scanned .taken) bs)) (sym f)
-
-  -- Of a scan in order.
-  run-fed : (bs : List ℕ) → Bytes bs → (c : Scan) → inOrder limit c ≡ true → (st : Stats) (buf : List ℕ)
-      → leaves (runOf limit c st buf bs)
-      ≡ leftBy limit (put buf c st) (take (runOf limit c st buf bs .scanned .taken) bs)
-  unfolding runOf feedOf movedOf bufOf
-  run-fed [] bytes c o st buf = refl
-  run-fed (b ∷ bs) bytes c o st buf =
-      let x = stepOf limit c st b in
-      then-fed (x .ended) (x .scan) (x .stats) (stored c buf b) _ (put buf c st) b bs (rw (settled-same limit c o))
-      (λ e. run-fed bs (bytes .1) (x .scan) (step-order limit b c st o (bytes .0)) (x .stats) (stored c buf b))
-
-  pub slice-fed : (p : Parser) (bs : List ℕ) → 0 < length bs → Bytes bs
-      → feedSliceOf limit p bs .parser ≡ leftBy limit p (take (feedSliceOf limit p bs .answer .count) bs)
-  unfolding feedSliceOf sliceMovedOf sliceBufOf runOf feedOf movedOf bufOf
-  slice-fed p [] some bytes = absurd (omega arith)
-  slice-fed p (b ∷ bs) some bytes =
-      let c = settled limit (p .scan) in
-      let x = stepOf limit c (p .stats) b in
-      then-fed (x .ended) (x .scan) (x .stats) (stored c (p .buf) b) _ p b bs refl
-      (λ e. run-fed bs (bytes .1) (x .scan) (step-order limit b c (p .stats) (settled-order limit (p .scan)) (bytes .0))
-      (x .stats) (stored c (p .buf) b))
+pub slice-first : (p : Parser) → Valid linkLimit p → (bs : List ℕ) → 0 < length bs → Bytes bs
+    → First p bs (feedSliceOf linkLimit p bs)
+slice-first p v [] any h = absurd (omega arith)
+slice-first p v (b ∷ bs) any h =
+    let t = subst (λ (s : Sliced Parser Answer). (0 < s .told) × Taken p (b ∷ bs) s)
+    (sym (slice-until linkLimit small p b bs v h))
+    (until-some p b bs (until-taken bs (engine linkLimit .feed p b .0))) in
+    record {
+      some = t .0;
+      inside = t .1 .0;
+      first = t .1 .1;
+      valid = lawful linkLimit small .slice-valid p (b ∷ bs) v h;
+    }

@@ -8,11 +8,11 @@ use mathlib.Core.List.{List, _++_}
 use Prim.Native.Nat.{ℕ, _+_, min}
 use lib.ListN.{length}
 use Rattle.wire.specs.Counter.{counterMax}
+use Rattle.wire.specs.Bytes.{Bytes}
 use Rattle.stream.specs.Length.{linkLimit}
 use Rattle.framing.specs.Piece.{Piece}
 use Rattle.framing.specs.Division.{Division, cut}
 use Rattle.framing.specs.Tally.{sum}
-use Rattle.engine.specs.Bytes.{Bytes}
 use Rattle.stream.specs.Open.{Open, Whole}
 use Rattle.stream.specs.Deliver.{Counter, adds, frames, resyncs, dropped, malformed}
 use Rattle.parser.specs.Feed.{unfinishedOf}

@@ -8,8 +8,8 @@ use Prim.Native.Nat.{ℕ}
 use lib.Dec.{ltb}
 use lib.IntN.{ℤ}
 use lib.ListN.{length, take}
+use Rattle.wire.specs.Bytes.{Bytes}
 use Rattle.io.specs.Counts.{clamped}
-use Rattle.engine.specs.Bytes.{Bytes}
 use Rattle.engine.specs.Calls.{feeds}
 use Rattle.parser.specs.Claims.{left}
 use Rattle.parser.specs.declared.Parser.{Parser}

@@ -2,9 +2,8 @@
 use feed::feed_slice_at;
 use ld2410::Parser;
 ghost use mathlib.Core.Path.{_≡_};
-ghost use Prim.Native.Nat.{_<_};
+ghost use Rattle.wire.specs.Bytes.{Bytes};
 ghost use Rattle.stream.specs.Length.{linkLimit};
-ghost use Rattle.engine.specs.Bytes.{Bytes};
 ghost use Rattle.engine.specs.Calls.{feeds};
 ghost use Rattle.parser.specs.Claims.{left};
 ghost use Rattle.parser.specs.Feed.{fresh};
@@ -21,8 +20,7 @@ ghost use Rattle.io.specs.Counts.{clamped};
 pub fn feed_all(parser: Parser, bytes: &[u8]) -> Parser
     ensures fed { λ r. ⌜ r ≡ left parser (feeds (now (bytes .entry))) ⌝ }
     ensures bytes { λ _. ⌜ Bytes (now (bytes .entry)) ⌝ }
-    ensures counted { λ r. ⌜ (0 < length (now (bytes .entry))
-        → FedAll (pendingBy linkLimit parser) parser (now (bytes .entry)) r) ⌝ }
+    ensures counted { λ r. ⌜ FedAll (pendingBy linkLimit parser) parser (now (bytes .entry)) r ⌝ }
 {
     let mut buf = parser.buf;
     let mut scan = parser.scan;

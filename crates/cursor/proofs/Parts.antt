@@ -11,8 +11,8 @@ use borrow.Author.Tests.{leb-true}
 use Rattle.wire.specs.Prefix.{over}
 use Rattle.writer.specs.Put.{placed, putIn}
 use Rattle.writer.specs.Written.{written}
-use Rattle.writer.proofs.PutPuts.{placed-fits}
-use Rattle.writer.proofs.Chain.{written-nil, written-length, put-behind}
+use Rattle.writer.proofs.PutFits.{placed-fits}
+use Rattle.writer.proofs.Chain.{written-nil, written-length, put-after}
 use Rattle.cursor.specs.Held.{nextAt}
 use Rattle.cursor.specs.Parts.{putAll, endAll, joined}
 
@@ -28,7 +28,7 @@ length-cond : (t : Bool) (a b : List ℕ) (n : ℕ) → (t ≡ true → length a
 length-cond true a b n h k = h refl
 length-cond false a b n h k = k
 
-put-length : (out : List ℕ) (at : ℕ) (b : List ℕ) → length (putIn out at b) ≡ length out
+pub put-length : (out : List ℕ) (at : ℕ) (b : List ℕ) → length (putIn out at b) ≡ length out
 unfolding putIn
 put-length out at b =
     length-cond (leb (at + length b) (length out)) (over out at b (length b)) out (length out)
@@ -40,18 +40,18 @@ parts-length out at (b ∷ bs) = parts-length (putIn out at b) (nextAt at (place
 
 -- The parts bs after what is written.
 module _ (out : List ℕ) where
-  parts-behind : (p : List ℕ) (bs : List (List ℕ)) → length p + length (joined bs) ≤ length out
+  parts-after : (p : List ℕ) (bs : List (List ℕ)) → length p + length (joined bs) ≤ length out
       → (putAll (written out p) (length p) bs ≡ written out (p ++ joined bs))
       × (endAll (written out p) (length p) bs ≡ length (p ++ joined bs))
-  parts-behind p [] h = (rw append-nil, rw append-nil)
-  parts-behind p (b ∷ bs) h =
+  parts-after p [] h = (rw append-nil, rw append-nil)
+  parts-after p (b ∷ bs) h =
       let n = length-append b (joined bs) in
       let l = written-length out p (omega arith) in
       let e = placed-fits (written out p) (length p) b (omega arith) in
       let k = length-append p b in
-      let next = parts-behind (p ++ b) bs (omega arith) in
-      rw (e, put-behind out p b (omega arith), ← k, ← append-assoc p b (joined bs)) next
+      let next = parts-after (p ++ b) bs (omega arith) in
+      rw (e, put-after out p b (omega arith), ← k, ← append-assoc p b (joined bs)) next
 
   pub parts-written : (bs : List (List ℕ)) → length (joined bs) ≤ length out
       → (putAll out 0 bs ≡ written out (joined bs)) × (endAll out 0 bs ≡ length (joined bs))
-  parts-written bs h = rw (written-nil out) at (parts-behind [] bs (omega arith))
+  parts-written bs h = rw (written-nil out) at (parts-after [] bs (omega arith))

@@ -1,3 +1,3 @@
 pub mod Held
 pub mod Parts
-pub mod Request
+pub mod CommandFrame

@@ -4,10 +4,10 @@
 // Every method is total: where there is too little room it refuses with 4 and the bytes needed in all, and neither the
 // slice nor the position changes. `Cursor` is private to this crate, and so is its 4. To a caller 4 means that the
 // output is shorter than the frame, which `put_value` tests before anything is put.
-mod maker;
+mod command_frame;
 
-pub use maker::Value;
-pub use maker::put_value;
+pub use command_frame::Value;
+pub use command_frame::put_value;
 use refusal::Error;
 use writer::Placed;
 use writer::WriteResult;

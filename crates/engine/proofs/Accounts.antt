@@ -1,18 +1,18 @@
 -- From the claim alone: without a reset, and where its counter is not full, every byte taken is accounted for.
 use mathlib.Core.Path.{_≡_, refl, sym, _∙_, ap}
 use mathlib.Core.List.{List, [], _∷_, _++_, append-assoc, append-nil}
-use mathlib.Core.Bool.{Bool, true, false}
+use mathlib.Core.Bool.{Bool, true, false, cond}
 use Prim.Native.Nat.{ℕ, _+_, _<_, min}
 use native.Mathlib.Omega.{arith}
 use lib.ListN.{length, take, length-append}
+use Rattle.wire.specs.Bytes.{Every}
 use Rattle.framing.specs.Piece.{Piece, stray, broken, whole, unfinished}
 use Rattle.framing.specs.Division.{cut}
-use Rattle.framing.specs.Tally.{lost, framed, waiting, one-if, passed, sum}
+use Rattle.framing.specs.Tally.{lost, inFrames, waiting, passed, sum}
 use Rattle.framing.proofs.Division.{division-length}
-use Rattle.engine.specs.Bytes.{Every}
 use Rattle.engine.specs.Engine.{Engine, history, final}
 use Rattle.engine.specs.Calls.{Call, feed, slice, reset, takenBy, stretches, soFar, Goes}
-use Rattle.engine.specs.Fulfilled.{Protocol, only-if, deliveries, answer, answers, joinOver, sumOver, Fulfilled}
+use Rattle.engine.specs.Fulfilled.{Protocol, deliveries, answer, answers, joinOver, sumOver, Fulfilled}
 
 same-each : (f g : Piece → ℕ) → ((p : Piece) → f p ≡ g p) → (ps : List Piece) → sum f ps ≡ sum g ps
 same-each f g e [] = refl
@@ -52,7 +52,7 @@ module _ {S A K : Type 0} (E : Engine S A K) where
       → (p : List ℕ) (s : S) (calls : List Call) (x : Fulfilled P E p s calls) → Every Goes calls
       → E .counter k s ≡ 0 → E .counter k (final E s calls) < E .max
       → length (p ++ takenBy (history E s calls)) ≡ E .counter k (final E s calls) + E .unfinished (final E s calls)
-      + sum framed (x .divide (p ++ takenBy (history E s calls)) .pieces)
+      + sum inFrames (x .divide (p ++ takenBy (history E s calls)) .pieces)
   accounts P k e p s calls x g zero room =
       let ds = history E s calls in
       rw (← all-taken calls p s g) (let ps = x .divide (soFar p ds) .pieces in omega (
@@ -67,7 +67,7 @@ module _ {S A K : Type 0} (E : Engine S A K) where
 
 -- From the claim alone: a counter of the whole frames that decode counts what is delivered.
 module _ {A : Type 0} (decodes : List ℕ → Bool) (answerOf : List ℕ → A) where
-  one-answer : (b : Bool) (a : A) → length (only-if b a) ≡ one-if b
+  one-answer : (b : Bool) (a : A) → length (cond b (a ∷ []) []) ≡ cond b 1 0
   one-answer true a = refl
   one-answer false a = refl
 

@@ -1,14 +1,14 @@
 -- A byte delivers the frame that it ends, if that decodes, and no other.
 use mathlib.Core.Path.{_≡_, refl, sym, _∙_, ap}
 use mathlib.Core.List.{List, [], _∷_, _++_, append-assoc, append-nil}
-use mathlib.Core.Bool.{Bool, true, false}
+use mathlib.Core.Bool.{Bool, true, false, cond}
 use mathlib.Core.Option.{none}
 use Prim.Native.Nat.{ℕ}
 use Rattle.framing.proofs.Framing.{Framing}
 use Rattle.framing.specs.Piece.{Piece, whole}
 use Rattle.framing.proofs.Scanner.{Step, step, closed, leftover}
 use Rattle.framing.proofs.View.{Does, does-end, does-open, does-stray, does-break, does}
-use Rattle.engine.specs.Fulfilled.{only-if, answer, answers}
+use Rattle.engine.specs.Fulfilled.{answer, answers}
 use Rattle.engine.proofs.Lawful.{answerAt, Decoding}
 
 module _ {A : Type 0} (D : Decoding A) where
@@ -17,7 +17,7 @@ module _ {A : Type 0} (D : Decoding A) where
 
   -- The answer, if it delivers a frame.
   abbrev pub ifDelivered : A → List A
-  ifDelivered a = only-if (D .delivers a) a
+  ifDelivered a = cond (D .delivers a) (a ∷ []) []
 
   pub answers-append : (ps qs : List Piece) → answersOf (ps ++ qs) ≡ answersOf ps ++ answersOf qs
   answers-append [] qs = refl
@@ -34,8 +34,8 @@ module _ {A : Type 0} (D : Decoding A) where
   frame-delivered : (f : List ℕ) → ifDelivered (D .answerOf f) ≡ answersOf (whole f ∷ [])
   frame-delivered f = go (D .decodes f) refl
     where
-      go : (b : Bool) → D .decodes f ≡ b → ifDelivered (D .answerOf f) ≡ only-if b (D .answerOf f) ++ []
-      go true q = rw (D .decoded f q)
+      go : (b : Bool) → D .decodes f ≡ b → ifDelivered (D .answerOf f) ≡ cond b (D .answerOf f ∷ []) [] ++ []
+      go true q = rw (D .decodes-delivers f q)
       go false q = rw (D .undecoded f q) none-delivered
 
   module _ (F : Framing) where

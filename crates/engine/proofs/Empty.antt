@@ -23,7 +23,7 @@ told-nil (to-frame f h l x y) = omega arith
 told-nil (to-end e y) = e
 
 pub empty-slice : {S A K : Type 0} (P : Protocol A K) (E : Engine S A K) (p : List ℕ) (s : S) (calls : List Call)
-    → Fulfilled P E p s calls → (before : List (Did A)) (k : ℕ) (a : A) (behind : List (Did A))
-    → history E s calls ≡ before ++ (sliced [] k a ∷ behind) → (k ≡ 0) × (a ≡ P .none)
-empty-slice P E p s calls x before k a behind e =
-    let r = x .right before (sliced [] k a) behind e in (told-nil (r .1), answered-nil P (take-nil k) (r .0))
+    → Fulfilled P E p s calls → (before : List (Did A)) (k : ℕ) (a : A) (after : List (Did A))
+    → history E s calls ≡ before ++ (sliced [] k a ∷ after) → (k ≡ 0) × (a ≡ P .none)
+empty-slice P E p s calls x before k a after e =
+    let r = x .right before (sliced [] k a) after e in (told-nil (r .1), answered-nil P (take-nil k) (r .0))

@@ -3,7 +3,7 @@ use mathlib.Core.Path.{_≡_, sym, _∙_, ap}
 use mathlib.Core.List.{List, [], _∷_, _++_, append-nil}
 use Prim.Native.Nat.{ℕ}
 use lib.Seq.{append-snoc}
-use Rattle.engine.specs.Bytes.{Every, Bytes}
+use Rattle.wire.specs.Bytes.{Every, Bytes}
 use Rattle.engine.specs.Engine.{Engine, history}
 use Rattle.engine.specs.Calls.{ByteCall, feeds, stretches, soFar}
 

@@ -4,28 +4,23 @@ use mathlib.Core.List.{List, [], _∷_, _++_, append-assoc, append-nil, cons≢n
 use Prim.Native.Nat.{ℕ, _+_, min}
 use native.Mathlib.Omega.{arith}
 use lib.ListN.{length}
+use Rattle.wire.specs.Bytes.{Every}
 use Rattle.framing.proofs.Framing.{Framing, Waits}
 use Rattle.framing.specs.Piece.{Piece}
 use Rattle.framing.specs.Division.{is-unfinished}
 use Rattle.framing.proofs.Counting.{Counting, total}
-use Rattle.framing.proofs.Scanner.{step, closed, rest, leftover}
+use Rattle.framing.proofs.Scanner.{step, closed, rest}
 use Rattle.framing.proofs.Division.{sum-append}
 use Rattle.framing.proofs.Scanned.{from, from-is, divided}
-use Rattle.framing.proofs.Append.{division-finished, division-cut}
-use Rattle.engine.specs.Bytes.{Every}
-use Rattle.engine.specs.Engine.{Engine, call, history, final}
+use Rattle.framing.proofs.Append.{finished-total, from-finished, division-finished, division-cut}
+use Rattle.engine.specs.Engine.{Engine, history, final}
 use Rattle.engine.specs.Calls.{Call, feed, slice, reset, ByteCall, Did, fed, sliced, cleared, taken}
 use Rattle.engine.specs.Calls.{stretches, soFar}
 use Rattle.engine.specs.Fulfilled.{deliveries, joinOver, sumOver, Fulfilled}
 use Rattle.engine.proofs.Lawful.{Decoding, protocolOf, Lawful}
-use Rattle.engine.proofs.Runs.{final-invariant}
 use Rattle.engine.proofs.Deliveries.{answersOf, answers-append, leftover-answers}
 use Rattle.engine.proofs.Moves.{DidRight, Moves, moves-byte, slice-moves, feed-right, slice-right}
 use Rattle.engine.proofs.Rights.{Rights, rights-none, rights-more, pieces, call-right}
-
-leftover-adds : {K : Type 0} (C : Counting K) (k : K) (p : List ℕ) → total C k (leftover p) ≡ 0
-leftover-adds C k [] = refl
-leftover-adds C k (b ∷ p) = omega (arith, C .cut-adds-nothing k (b ∷ p))
 
 module _ (F : Framing) where
   pub rest-append : (p t u : List ℕ) → rest F p (t ++ u) ≡ rest F (rest F p t) u
@@ -54,8 +49,7 @@ module _ (F : Framing) {A K : Type 0} (D : Decoding A) (C : Counting K) where
   closed-answers u = rw (from-is F [] u, answers-append D, leftover-answers D (rest F [] u), append-nil)
 
   closed-adds : (k : K) (u : List ℕ) → total C k (from F [] u) ≡ total C k (closed F [] u)
-  closed-adds k u = ap (total C k) (from-is F [] u)
-      ∙ omega (arith, sum-append (C .adds k) (closed F [] u) (leftover (rest F [] u)), leftover-adds C k (rest F [] u))
+  closed-adds k u = sym (finished-total C k (from F [] u)) ∙ ap (total C k) (from-finished F [] u)
 
 module _ (F : Framing) {S A K : Type 0} (D : Decoding A) (C : Counting K) (E : Engine S A K)
     {Valid : S → Type 0} (L : Lawful F D C E Valid) where
@@ -83,9 +77,10 @@ module _ (F : Framing) {S A K : Type 0} (D : Decoding A) (C : Counting K) (E : E
       → E .pending s ≡ rest F [] u → Moves F D C E L s (taken d) s₁ → DidRight F D (E .pending s) d
       → ((es : List (Did A)) → soFar u (d ∷ es) ≡ soFar (u ++ taken d) es)
       → stretches u (d ∷ ds) ≡ stretches (u ++ taken d) ds
-      → Run (u ++ taken d) s₁ ds s′ → Run u s (d ∷ ds) s′
-  run-took u s d s₁ ds s′ e m r q q′ x =
+      → (Valid s₁ → E .pending s₁ ≡ rest F [] (u ++ taken d) → Run (u ++ taken d) s₁ ds s′) → Run u s (d ∷ ds) s′
+  run-took u s d s₁ ds s′ e m r q q′ on =
       let t = taken d in
+      let x = on (m .valid) (m .pending ∙ ap (λ (p : List ℕ). rest F p t) e ∙ sym (rest-append F [] u t)) in
       let c = closed-append F [] u t in
       record {
         valid = x .valid;
@@ -131,18 +126,14 @@ module _ (F : Framing) {S A K : Type 0} (D : Decoding A) (C : Counting K) (E : E
       (runs cs [] (E .reset s) (L .reset-valid s ok) (L .reset-pending s ok) (h .1))
   runs (feed b ∷ cs) u s ok e h =
       let s₁ = E .feed s b .0 in
-      let m = moves-byte F D C E L s b ok (h .0) in
-      let e₁ = m .pending ∙ ap (λ (p : List ℕ). rest F p (b ∷ [])) e ∙ sym (rest-append F [] u (b ∷ [])) in
-      run-took u s (fed b (E .feed s b .1)) s₁ (history E s₁ cs) (final E s₁ cs) e m
-      (feed-right F D C E L s b ok (h .0)) (λ es. refl) refl (runs cs (u ++ (b ∷ [])) s₁ (m .valid) e₁ (h .1))
+      run-took u s (fed b (E .feed s b .1)) s₁ (history E s₁ cs) (final E s₁ cs) e (moves-byte F D C E L s b ok (h .0))
+      (feed-right F D C E L s b ok (h .0)) (λ es. refl) refl (λ ok₁ e₁. runs cs (u ++ (b ∷ [])) s₁ ok₁ e₁ (h .1))
   runs (slice bs ∷ cs) u s ok e h =
       let r = E .slice s bs in
-      let d = sliced bs (r .told) (r .answer) in
       let s₁ = r .state in
-      let m = slice-moves F D C E L s bs ok (h .0) in
-      let e₁ = m .pending ∙ ap (λ (p : List ℕ). rest F p (taken d)) e ∙ sym (rest-append F [] u (taken d)) in
-      run-took u s d s₁ (history E s₁ cs) (final E s₁ cs) e m
-      (slice-right F D C E L s bs ok (h .0)) (λ es. refl) refl (runs cs (u ++ taken d) s₁ (m .valid) e₁ (h .1))
+      let d = sliced bs (r .told) (r .answer) in
+      run-took u s d s₁ (history E s₁ cs) (final E s₁ cs) e (slice-moves F D C E L s bs ok (h .0))
+      (slice-right F D C E L s bs ok (h .0)) (λ es. refl) refl (λ ok₁ e₁. runs cs (u ++ taken d) s₁ ok₁ e₁ (h .1))
 
   -- The theorem.
   pub fulfilled : (s : S) → Valid s → (calls : List Call) → Every ByteCall calls
@@ -165,9 +156,5 @@ module _ (F : Framing) {S A K : Type 0} (D : Decoding A) (C : Counting K) (E : E
 
   -- And the state stays valid.
   pub final-valid : (s : S) (calls : List Call) → Valid s → Every ByteCall calls → Valid (final E s calls)
-  final-valid s calls ok h = final-invariant (call E) Valid ByteCall one s calls ok h
-    where
-      one : (s : S) (c : Call) → Valid s → ByteCall c → Valid (call E s c .0)
-      one s (feed b) ok h = L .feed-valid s b ok h
-      one s (slice bs) ok h = L .slice-valid s bs ok h
-      one s reset ok h = L .reset-valid s ok
+  final-valid s calls ok h =
+      runs calls (E .pending s) s ok (sym (waits-rest F (E .pending s) (L .pending-waits s ok))) h .valid

@@ -10,10 +10,10 @@ use mathlib.Core.Bool.{Bool, true, false}
 use mathlib.Core.Option.{Option, none, some}
 use Prim.Native.Nat.{ℕ, suc, _+_, _≤_, min}
 use lib.ListN.{length}
+use Rattle.wire.specs.Bytes.{Byte, Bytes}
 use Rattle.framing.proofs.Framing.{Framing, Waits}
 use Rattle.framing.proofs.Counting.{Counting, total}
 use Rattle.framing.proofs.Scanner.{step}
-use Rattle.engine.specs.Bytes.{Byte, Bytes}
 use Rattle.engine.specs.Engine.{Sliced, Engine}
 use Rattle.engine.specs.Fulfilled.{Protocol}
 
@@ -25,7 +25,7 @@ pub record Decoding (A : Type 0) : Type 0 where
   pub decodes : List ℕ → Bool
   pub answerOf : List ℕ → A
   pub none-delivers : delivers none ≡ false
-  pub decoded : (f : List ℕ) → decodes f ≡ true → delivers (answerOf f) ≡ true
+  pub decodes-delivers : (f : List ℕ) → decodes f ≡ true → delivers (answerOf f) ≡ true
   pub undecoded : (f : List ℕ) → decodes f ≡ false → answerOf f ≡ none
 
 abbrev pub protocolOf : {A K : Type 0} → Framing → Decoding A → Counting K → Protocol A K
@@ -85,5 +85,5 @@ pub record Lawful (F : Framing) {S A K : Type 0} (D : Decoding A) (C : Counting 
   -- what is pending is open and not whole, and is as long as the engine says
   pub pending-waits : (s : S) → Valid s → Waits F (E .pending s)
   pub pending-length : (s : S) → Valid s → E .unfinished s ≡ length (E .pending s)
-  -- no counter is past its most
+  -- no counter is past its max
   pub capped : (s : S) → Valid s → (k : K) → E .counter k s ≤ E .max

@@ -1,7 +1,5 @@
 -- The laws of the theory of parsers, in the order in which they lean on one another.
 
--- When a list is one of bytes.
-pub mod Bytes
 -- Runs, taken apart.
 pub mod Runs
 -- The stretches, and where a call stands in them.
@@ -11,7 +9,7 @@ pub mod Lawful
 -- A byte delivers the frame that it ends.
 pub mod Deliveries
 -- Answers and counts after a pending string.
-pub mod Answers
+pub mod OneByte
 -- What a lawful engine's calls come to.
 pub mod Moves
 -- At a place one frame ends, one answer is right, and one count.
@@ -20,8 +18,6 @@ pub mod Sure
 pub mod Rights
 -- A lawful engine fulfils demand 3.
 pub mod Fulfilled
--- The claim is the same over strings of which the same are open and whole.
-pub mod Over
 -- Every byte taken is accounted for.
 pub mod Accounts
 -- The claim leaves no choice.

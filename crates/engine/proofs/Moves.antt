@@ -5,23 +5,23 @@ use mathlib.Core.Option.{Option, none, some}
 use Prim.Native.Nat.{ℕ, suc, _+_, min}
 use native.Mathlib.Omega.{arith}
 use lib.ListN.{length, take}
+use Rattle.wire.specs.Bytes.{Byte, Bytes}
 use Rattle.framing.proofs.Framing.{Framing}
 use Rattle.framing.proofs.Counting.{Counting, total}
 use Rattle.framing.proofs.Scanner.{step, closed, rest}
 use Rattle.framing.proofs.Division.{sum-append}
 use Rattle.framing.proofs.Scanned.{from}
-use Rattle.engine.specs.Bytes.{Byte, Bytes}
 use Rattle.engine.specs.Engine.{Sliced, Engine}
 use Rattle.engine.specs.Calls.{Did, fed, sliced, taken}
 use Rattle.engine.specs.Fulfilled.{delivery, Told, to-end}
 use Rattle.engine.proofs.Lawful.{stopIf, feedUntil, Lawful, Decoding}
-use Rattle.engine.proofs.Answers.{Answering, no-byte, RightBehind, answered-byte, answered-more, told-more}
-use Rattle.engine.proofs.Answers.{told-here}
+use Rattle.engine.proofs.OneByte.{Answering, no-byte, RightAfter, answered-byte, answered-more, told-more}
+use Rattle.engine.proofs.OneByte.{told-here}
 use Rattle.engine.proofs.Deliveries.{ifDelivered, answersOf, none-delivered, quiet-more, byte-delivers}
 
 -- A call that is the first after p, whatever follows.
 pub record DidRight (F : Framing) {A : Type 0} (D : Decoding A) (p : List ℕ) (d : Did A) : Type 0 where
-  pub right : (v : List ℕ) → RightBehind F D p [] (taken d ++ v) d
+  pub right : (v : List ℕ) → RightAfter F D p [] (taken d ++ v) d
   pub delivered : delivery (D .delivers) d ≡ answersOf D (closed F p (taken d))
 
 module _ (F : Framing) {S A K : Type 0} (D : Decoding A) (C : Counting K) (E : Engine S A K)

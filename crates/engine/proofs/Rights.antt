@@ -15,27 +15,27 @@ use Rattle.framing.proofs.View.{nothing-waits}
 use Rattle.engine.specs.Calls.{Did, fed, sliced, cleared, taken, soFar, upToReset}
 use Rattle.engine.specs.Fulfilled.{Protocol, Answered, CallRight}
 use Rattle.engine.proofs.Lawful.{Decoding, protocolOf}
-use Rattle.engine.proofs.Answers.{Answering, frame, no-frame, no-byte, RightBehind, right-behind}
+use Rattle.engine.proofs.OneByte.{Answering, frame, no-frame, no-byte, RightAfter, right-after}
 use Rattle.engine.proofs.Sure.{frame-unique, clash}
 use Rattle.engine.proofs.Moves.{DidRight}
 
 module _ {A K : Type 0} (P : Protocol A K) (pieces : List ℕ → List Piece) where
   abbrev pub Rights : List ℕ → List (Did A) → Type 0
-  Rights u ds = (before : List (Did A)) (d : Did A) (behind : List (Did A)) → ds ≡ before ++ (d ∷ behind)
-      → CallRight P pieces (soFar u before) (upToReset behind) d
+  Rights u ds = (before : List (Did A)) (d : Did A) (after : List (Did A)) → ds ≡ before ++ (d ∷ after)
+      → CallRight P pieces (soFar u before) (upToReset after) d
 
   pub rights-none : (u : List ℕ) → Rights u []
-  rights-none u [] d behind e = absurd (nil≢cons e)
-  rights-none u (x ∷ before) d behind e = absurd (nil≢cons e)
+  rights-none u [] d after e = absurd (nil≢cons e)
+  rights-none u (x ∷ before) d after e = absurd (nil≢cons e)
 
   pub rights-more : (u v : List ℕ) (x : Did A) (ds : List (Did A))
       → ((before : List (Did A)) → soFar u (x ∷ before) ≡ soFar v before)
       → ((t : List ℕ) → CallRight P pieces u t x) → Rights v ds → Rights u (x ∷ ds)
-  rights-more u v x ds q first more [] d behind e =
-      subst (λ (y : Did A). CallRight P pieces u (upToReset behind) y) (head-eq-of-cons-eq e) (first (upToReset behind))
-  rights-more u v x ds q first more (y ∷ before) d behind e =
-      subst (λ (z : Did A). CallRight P pieces (soFar u (z ∷ before)) (upToReset behind) d) (head-eq-of-cons-eq e)
-      (rw (q before) (more before d behind (tail-eq-of-cons-eq e)))
+  rights-more u v x ds q first more [] d after e =
+      subst (λ (y : Did A). CallRight P pieces u (upToReset after) y) (head-eq-of-cons-eq e) (first (upToReset after))
+  rights-more u v x ds q first more (y ∷ before) d after e =
+      subst (λ (z : Did A). CallRight P pieces (soFar u (z ∷ before)) (upToReset after) d) (head-eq-of-cons-eq e)
+      (rw (q before) (more before d after (tail-eq-of-cons-eq e)))
 
 module _ (F : Framing) {A K : Type 0} (D : Decoding A) (C : Counting K) where
   abbrev pub P : Protocol A K
@@ -48,9 +48,9 @@ module _ (F : Framing) {A K : Type 0} (D : Decoding A) (C : Counting K) where
     where
       go : (b : Bool) → D .decodes f ≡ b → Answered P ps u t a
       go true q = record {
-        when = ((λ z. (f, (ne, x), q)), (λ y. rw e (D .decoded f q)));
+        when = ((λ z. (f, (ne, x), q)), (λ y. rw e (D .decodes-delivers f q)));
         which = λ g y r. e ∙ ap (D .answerOf) (frame-unique F d x (y .1));
-        else = λ z. absurd (clash (D .delivers a) (rw e (D .decoded f q)) z);
+        else = λ z. absurd (clash (D .delivers a) (rw e (D .decodes-delivers f q)) z);
       }
       go false q =
           let none = e ∙ D .undecoded f q in
@@ -62,7 +62,7 @@ module _ (F : Framing) {A K : Type 0} (D : Decoding A) (C : Counting K) where
             which = λ g y r. e ∙ ap (D .answerOf) (frame-unique F d x (y .1));
             else = λ z. none;
           }
-  exactly {a = a} d (no-frame x e) = record {
+  exactly {a = a} d (no-frame ne x e) = record {
     when = (
       (λ z. absurd (clash (D .delivers a) z (rw e (D .none-delivers)))),
       (λ y. absurd (x (y .0) (y .1 .1))),
@@ -83,7 +83,7 @@ module _ (F : Framing) {A K : Type 0} (D : Decoding A) (C : Counting K) where
   pieces t = divided F t .pieces
 
   -- A call that is right after what is pending is right after all that its stretch has taken.
-  right-at : (u v : List ℕ) (d : Did A) → RightBehind F D [] u (u ++ (taken d ++ v)) d → CallRight P pieces u v d
+  right-at : (u v : List ℕ) (d : Did A) → RightAfter F D [] u (u ++ (taken d ++ v)) d → CallRight P pieces u v d
   unfolding divided
   right-at u v (fed b a) x =
       let z : 0 + length u ≡ length u = omega arith in
@@ -96,4 +96,4 @@ module _ (F : Framing) {A K : Type 0} (D : Decoding A) (C : Counting K) where
   right-at u v cleared x = tt
 
   pub call-right : (u v : List ℕ) (d : Did A) → DidRight F D (rest F [] u) d → CallRight P pieces u v d
-  call-right u v d r = right-at u v d (rw append-nil at (right-behind F D [] u [] (taken d ++ v) d (r .right v)))
+  call-right u v d r = right-at u v d (rw append-nil at (right-after F D [] u [] (taken d ++ v) d (r .right v)))

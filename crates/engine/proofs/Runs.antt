@@ -1,7 +1,6 @@
--- Runs, taken apart where one list of calls follows another, and what every call keeps.
+-- Runs, taken apart where one list of calls follows another.
 use mathlib.Core.Path.{_≡_, refl, ap}
 use mathlib.Core.List.{List, [], _∷_, _++_}
-use Rattle.engine.specs.Bytes.{Every}
 use Rattle.engine.specs.Runs.{Machine, history, final}
 
 module _ {S C D : Type 0} (M : Machine S C D) where
@@ -12,10 +11,3 @@ module _ {S C D : Type 0} (M : Machine S C D) where
   pub final-append : (s : S) (cs ds : List C) → final M s (cs ++ ds) ≡ final M (final M s cs) ds
   final-append s [] ds = refl
   final-append s (c ∷ cs) ds = final-append (M s c .0) cs ds
-
-  pub final-invariant : (Valid : S → Type 0) (Allowed : C → Type 0)
-      → ((s : S) (c : C) → Valid s → Allowed c → Valid (M s c .0))
-      → (s : S) (cs : List C) → Valid s → Every Allowed cs → Valid (final M s cs)
-  final-invariant Valid Allowed one s [] ok all = ok
-  final-invariant Valid Allowed one s (c ∷ cs) ok all =
-      final-invariant Valid Allowed one (M s c .0) cs (one s c ok (all .0)) (all .1)

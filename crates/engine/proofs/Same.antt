@@ -15,21 +15,17 @@ use Rattle.engine.specs.Engine.{Engine, history}
 use Rattle.engine.specs.Calls.{Call, feed, slice, reset, Did, fed, sliced, cleared, stretches, soFar, upToReset}
 use Rattle.engine.specs.Fulfilled.{Protocol, sumOver, LastEnds, Fulfilled, Same}
 use Rattle.engine.proofs.Lawful.{Decoding, protocolOf}
-use Rattle.engine.proofs.Answers.{placed}
+use Rattle.engine.proofs.OneByte.{placed}
 use Rattle.engine.proofs.Sure.{answer-unique, told-unique}
 use Rattle.engine.proofs.Rights.{Rights}
 use Rattle.engine.proofs.Accounts.{same-over}
 
 module _ (F : Framing) where
   -- What ends with the last byte of t, after u, does not depend on what follows.
-  same-byte : (s : List ℕ) (c : ℕ) (v w : List ℕ) {ps qs : List Piece} → Divides F (s ++ (c ∷ v)) ps
-      → Divides F (s ++ (c ∷ w)) qs → (f : List ℕ) → EndsAt ps (length s + 1) f → EndsAt qs (length s + 1) f
-  same-byte s c v w d e f x = event F s c w e f .1 (event F s c v d f .0 x)
-
   same-end : (u : List ℕ) (c : ℕ) (t v w : List ℕ) {ps qs : List Piece} → Divides F (u ++ (c ∷ t ++ v)) ps
       → Divides F (u ++ (c ∷ t ++ w)) qs → (f : List ℕ)
       → EndsAt ps (length u + suc (length t)) f → EndsAt qs (length u + suc (length t)) f
-  same-end u c [] v w d e f x = same-byte u c v w d e f x
+  same-end u c [] v w d e f x = event F u c w e f .1 (event F u c v d f .0 x)
   same-end u c (b ∷ t) v w {ps} {qs} d e f x =
       placed qs (omega (arith, length-append u (c ∷ [])))
       (same-end (u ++ (c ∷ [])) b t v w (rw (← append-snoc u c (b ∷ t ++ v)) at d)
@@ -61,8 +57,8 @@ module _ (F : Framing) {S S′ A K : Type 0} (D : Decoding A) (C : Counting K)
         → Rights P py u (history E′ s′ calls) → history E s calls ≡ history E′ s′ calls
     same-turns [] u s s′ p q = refl
     same-turns (reset ∷ cs) u s s′ p q = ap (λ ds. cleared ∷ ds) (same-turns cs [] (E .reset s) (E′ .reset s′)
-        (λ before d behind e. p (cleared ∷ before) d behind (ap (λ (l : List (Did A)). cleared ∷ l) e))
-        (λ before d behind e. q (cleared ∷ before) d behind (ap (λ (l : List (Did A)). cleared ∷ l) e)))
+        (λ before d after e. p (cleared ∷ before) d after (ap (λ (l : List (Did A)). cleared ∷ l) e))
+        (λ before d after e. q (cleared ∷ before) d after (ap (λ (l : List (Did A)). cleared ∷ l) e)))
     same-turns (feed b ∷ cs) u s s′ p q =
         let r = E .feed s b in
         let r′ = E′ .feed s′ b in
@@ -73,8 +69,8 @@ module _ (F : Framing) {S S′ A K : Type 0} (D : Decoding A) (C : Counting K)
         let e = answer-unique P (same-last F u (b ∷ []) v w (x (u ++ (b ∷ v)) .division) (y (u ++ (b ∷ w)) .division))
         (p [] (fed b (r .1)) hs refl) (q [] (fed b (r′ .1)) hs′ refl) in
         let more = same-turns cs (u ++ (b ∷ [])) (r .0) (r′ .0)
-        (λ before d behind e. p (fed b (r .1) ∷ before) d behind (ap (λ (l : List (Did A)). fed b (r .1) ∷ l) e))
-        (λ before d behind e. q (fed b (r′ .1) ∷ before) d behind (ap (λ (l : List (Did A)). fed b (r′ .1) ∷ l) e)) in
+        (λ before d after e. p (fed b (r .1) ∷ before) d after (ap (λ (l : List (Did A)). fed b (r .1) ∷ l) e))
+        (λ before d after e. q (fed b (r′ .1) ∷ before) d after (ap (λ (l : List (Did A)). fed b (r′ .1) ∷ l) e)) in
         cc
     same-turns (slice bs ∷ cs) u s s′ p q =
         let r = E .slice s bs in
@@ -93,9 +89,9 @@ module _ (F : Framing) {S S′ A K : Type 0} (D : Decoding A) (C : Counting K)
         (same-last F u t v w (x (u ++ (t ++ v)) .division) (y (u ++ (t ++ w)) .division))
         (rw k at (one .0)) (two .0) in
         let onward : Rights P px (u ++ t) hs =
-        rw (← k) (λ before d behind e. p (d₁ ∷ before) d behind (ap (λ (l : List (Did A)). d₁ ∷ l) e)) in
+        rw (← k) (λ before d after e. p (d₁ ∷ before) d after (ap (λ (l : List (Did A)). d₁ ∷ l) e)) in
         let more = same-turns cs (u ++ t) (r .state) (r′ .state) onward
-        (λ before d behind e. q (d₂ ∷ before) d behind (ap (λ (l : List (Did A)). d₂ ∷ l) e)) in
+        (λ before d after e. q (d₂ ∷ before) d after (ap (λ (l : List (Did A)). d₂ ∷ l) e)) in
         cc
 
     -- So equal histories have equal sums, and equal ends.
@@ -108,7 +104,7 @@ module _ (F : Framing) {S S′ A K : Type 0} (D : Decoding A) (C : Counting K)
     same-cut : (p : List ℕ) {ds es : List (Did A)} → ds ≡ es → cut (px (soFar p ds)) ≡ cut (py (soFar p es))
     same-cut p {ds} {es} e = ap (λ l. cut (px (soFar p l))) e ∙ ap cut (same-pieces F x y (soFar p es))
 
-  -- The theorem: from the claim alone, with the same string pending, equal counters to start with, and the same most.
+  -- The theorem: from the claim alone, with the same string pending, equal counters to start with, and the same max.
   pub same : (p : List ℕ) (s : S) (s′ : S′) (calls : List Call) → Fulfilled P E p s calls → Fulfilled P E′ p s′ calls
       → E .max ≡ E′ .max → ((k : K) → E .counter k s ≡ E′ .counter k s′) → Same E E′ s s′ calls
   same p s s′ calls x y max start =

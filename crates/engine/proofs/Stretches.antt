@@ -25,11 +25,11 @@ module _ {A : Type 0} where
       (first-is ds (p ++ take k bs))
   first-is (cleared ∷ ds) p = List·Memᴰ·head (append-nil p)
 
-  pub stretch-of : (before : List (Did A)) (p : List ℕ) (d : Did A) (behind : List (Did A)) → Took d
-      → List·Memᴰ (soFar p before ++ (taken d ++ upToReset behind)) (stretches p (before ++ (d ∷ behind)))
-  stretch-of [] p (fed b a) behind h = first-is (fed b a ∷ behind) p
-  stretch-of [] p (sliced bs k a) behind h = first-is (sliced bs k a ∷ behind) p
-  stretch-of [] p cleared behind h = absurd h
-  stretch-of (fed b a ∷ before) p d behind h = stretch-of before (p ++ (b ∷ [])) d behind h
-  stretch-of (sliced bs k a ∷ before) p d behind h = stretch-of before (p ++ take k bs) d behind h
-  stretch-of (cleared ∷ before) p d behind h = List·Memᴰ·tail (stretch-of before [] d behind h)
+  pub stretch-of : (before : List (Did A)) (p : List ℕ) (d : Did A) (after : List (Did A)) → Took d
+      → List·Memᴰ (soFar p before ++ (taken d ++ upToReset after)) (stretches p (before ++ (d ∷ after)))
+  stretch-of [] p (fed b a) after h = first-is (fed b a ∷ after) p
+  stretch-of [] p (sliced bs k a) after h = first-is (sliced bs k a ∷ after) p
+  stretch-of [] p cleared after h = absurd h
+  stretch-of (fed b a ∷ before) p d after h = stretch-of before (p ++ (b ∷ [])) d after h
+  stretch-of (sliced bs k a ∷ before) p d after h = stretch-of before (p ++ take k bs) d after h
+  stretch-of (cleared ∷ before) p d after h = List·Memᴰ·tail (stretch-of before [] d after h)

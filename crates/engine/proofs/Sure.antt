@@ -16,8 +16,8 @@ use Rattle.engine.specs.Fulfilled.{Protocol, LastEnds, Answered, Told, t
 
 module _ (F : Framing) where
   -- No frame of a division is empty.
-  behind-start : {s : List ℕ} {ps : List Piece} {n : ℕ} {f : List ℕ} → Divides F s ps → Ends ps n f → 0 < n
-  behind-start {s} {ps} {n} {f} d x = late F [] s n f (rw (scanner-complete F d) at x)
+  after-start : {s : List ℕ} {ps : List Piece} {n : ℕ} {f : List ℕ} → Divides F s ps → Ends ps n f → 0 < n
+  after-start {s} {ps} {n} {f} d x = late F [] s n f (rw (scanner-complete F d) at x)
 
   same-frame : {s : List ℕ} {ps : List Piece} {m n : ℕ} {f g : List ℕ} → Divides F s ps → m ≡ n
       → Ends ps m f → Ends ps n g → f ≡ g
@@ -25,8 +25,8 @@ module _ (F : Framing) where
   same-frame (is-stray b d) q (later x e) (later y e′) = same-frame d (omega arith) x y
   same-frame (is-broken ne o w b d) q (later x e) (later y e′) = same-frame d (omega arith) x y
   same-frame (is-whole w d) q (here z e) (here z′ e′) = sym z ∙ z′
-  same-frame (is-whole w d) q (here z e) (later y e′) = absurd (omega (arith, behind-start d y))
-  same-frame (is-whole w d) q (later x e) (here z′ e′) = absurd (omega (arith, behind-start d x))
+  same-frame (is-whole w d) q (here z e) (later y e′) = absurd (omega (arith, after-start d y))
+  same-frame (is-whole w d) q (later x e) (here z′ e′) = absurd (omega (arith, after-start d x))
   same-frame (is-whole w d) q (later x e) (later y e′) = same-frame d (omega arith) x y
   same-frame (is-unfinished ne o w) q (later x e) y = absurd (ends-nil x)
 

@@ -2,9 +2,9 @@
 use mathlib.Core.List.{List, [], _∷_}
 use mathlib.Core.Option.{Option, none, some}
 use Prim.Native.Nat.{ℕ, suc}
+use Rattle.wire.specs.Bytes.{Byte, Bytes}
 use Rattle.framing.proofs.Framing.{Framing}
 use Rattle.framing.proofs.Scanner.{step}
-use Rattle.engine.specs.Bytes.{Byte, Bytes}
 use Rattle.engine.specs.Engine.{Sliced, Engine}
 use Rattle.engine.proofs.Lawful.{stopIf, feedUntil, Decoding}
 

@@ -12,7 +12,7 @@
 use mathlib.Core.List.{List, [], _∷_, _++_, map}
 use Prim.Native.Nat.{ℕ}
 use lib.ListN.{take}
-use Rattle.engine.specs.Bytes.{Byte, Bytes}
+use Rattle.wire.specs.Bytes.{Byte, Bytes}
 
 pub data Call : Type 0 where
   feed : (b : ℕ) → Call

@@ -20,5 +20,5 @@ StretchesJoined = (p : List ℕ) (ds : List (Did (List ℕ))) → joinOver (λ t
 
 -- What stands before a call in its stretch, what it took, and what stands after it, make up one of the stretches.
 unfoldable pub StretchOfCall : Type 0
-StretchOfCall = (p : List ℕ) (before : List (Did (List ℕ))) (d : Did (List ℕ)) (behind : List (Did (List ℕ)))
-    → Took d → List·Memᴰ (soFar p before ++ (taken d ++ upToReset behind)) (stretches p (before ++ (d ∷ behind)))
+StretchOfCall = (p : List ℕ) (before : List (Did (List ℕ))) (d : Did (List ℕ)) (after : List (Did (List ℕ)))
+    → Took d → List·Memᴰ (soFar p before ++ (taken d ++ upToReset after)) (stretches p (before ++ (d ∷ after)))

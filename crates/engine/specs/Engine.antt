@@ -1,6 +1,6 @@
 -- A parser as an engine over states S, with answers A and tallies K.
 --   Sliced S A     what a slice call gives back: the state, how many bytes it says it took, and the answer
---   Engine S A K   the operations, the counters with their most, the unfinished length, and the pending string
+--   Engine S A K   the operations, the counters and their largest number, the unfinished length, the pending string
 --   call E         one call: what it leaves, and what it did
 --   history E      what calls did, one after another; final E, the state that they left
 use mathlib.Core.List.{List}
@@ -13,7 +13,7 @@ pub record Sliced (S A : Type 0) : Type 0 where
   pub told : ℕ
   pub answer : A
 
--- `most` is where the counters stop, `pending` the open string that a state stands for, and `unfinished` how long the
+-- `max` is where the counters stop, `pending` the open string that a state stands for, and `unfinished` how long the
 -- engine itself says that it is. An answer that points into the state left, as a payload's place in a buffer, holds
 -- the bytes that stand there too: a claim about the answer then says that they do.
 pub record Engine (S A K : Type 0) : Type 0 where

@@ -11,7 +11,7 @@
 use mathlib.Core.Path.{_≡_}
 use mathlib.Core.Logic.{_≢_, _↔_}
 use mathlib.Core.List.{List, [], _∷_, _++_}
-use mathlib.Core.Bool.{Bool, true, false}
+use mathlib.Core.Bool.{Bool, true, false, cond}
 use Prim.Native.Nat.{ℕ, _+_, _≤_, _<_, min}
 use lib.ListN.{length, take}
 use Rattle.framing.specs.Piece.{Piece, stray, broken, whole, unfinished}
@@ -34,14 +34,10 @@ pub record Protocol (A K : Type 0) : Type 1 where
   -- what a piece adds to a counter
   pub adds : K → Piece → ℕ
 
-abbrev pub only-if : {A : Type 0} → Bool → A → List A
-only-if true a = a ∷ []
-only-if false a = []
-
 module _ {A : Type 0} (delivers : A → Bool) where
   abbrev pub delivery : Did A → List A
-  delivery (fed b a) = only-if (delivers a) a
-  delivery (sliced bs k a) = only-if (delivers a) a
+  delivery (fed b a) = cond (delivers a) (a ∷ []) []
+  delivery (sliced bs k a) = cond (delivers a) (a ∷ []) []
   delivery cleared = []
 
   abbrev pub deliveries : List (Did A) → List A
@@ -52,7 +48,7 @@ module _ {A : Type 0} (decodes : List ℕ → Bool) (answerOf : List ℕ → A) 
   abbrev pub answer : Piece → List A
   answer (stray b) = []
   answer (broken s) = []
-  answer (whole s) = only-if (decodes s) (answerOf s)
+  answer (whole s) = cond (decodes s) (answerOf s ∷ []) []
   answer (unfinished s) = []
 
   abbrev pub answers : List Piece → List A
@@ -102,13 +98,13 @@ pub record Fulfilled {S A K : Type 0} (P : Protocol A K) (E : Engine S A K) (p :
   pub divide : (t : List ℕ) → Divided (P .Open) (P .Whole) t
   -- each call delivered exactly the frame that decodes and ends with the last byte it took, and each slice feed told
   -- exactly how many bytes it took
-  pub right : (before : List (Did A)) (d : Did A) (behind : List (Did A))
-      → history E s calls ≡ before ++ (d ∷ behind)
-      → CallRight P (λ t. divide t .pieces) (soFar p before) (upToReset behind) d
+  pub right : (before : List (Did A)) (d : Did A) (after : List (Did A))
+      → history E s calls ≡ before ++ (d ∷ after)
+      → CallRight P (λ t. divide t .pieces) (soFar p before) (upToReset after) d
   -- the frames delivered are all the whole frames that decode, each once, in order
   pub delivered : deliveries (P .delivers) (history E s calls)
       ≡ joinOver (λ t. answers (P .decodes) (P .answerOf) (divide t .pieces)) (stretches p (history E s calls))
-  -- each counter holds what it held at the start and its total over all the stretches, or its most if that is less
+  -- each counter holds what it held at the start and its total over all the stretches, or its max if that is less
   pub counted : (k : K) → E .counter k (final E s calls)
       ≡ min (E .counter k s + sumOver (λ t. sum (P .adds k) (divide t .pieces)) (stretches p (history E s calls)))
       (E .max)

@@ -1,7 +1,5 @@
 -- The meanings of the theory of parsers, in reading order. The laws about them are in proofs/.
 
--- Bytes, and properties of every element of a list.
-pub mod Bytes
 -- Runs of calls on any machine.
 pub mod Runs
 -- Calls on a parser, and the stretches between resets.

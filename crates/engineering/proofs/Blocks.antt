@@ -1,20 +1,21 @@
 -- The engineering block: when it fits, and what it is read as.
 use mathlib.Core.Path.{_≡_, refl, ap, sym, _∙_}
 use mathlib.Core.List.{List}
-use mathlib.Core.Bool.{Bool, true, false}
+use mathlib.Core.Bool.{true, false}
 use Prim.Native.Nat.{ℕ, _+_, _-_, _≤_, _<_}
 use native.Mathlib.Omega.{arith}
 use lib.ListN.{length, getD, take, drop}
 use borrow.Rule.Slice.PartAt.{part-to-end}
 use borrow.Author.Tests.{lt-ltb, le-ltb}
 use Rattle.wire.specs.Prefix.{padded}
-use Rattle.refusal.specs.Check.{orFailed}
+use Rattle.wire.proofs.Conditions.{cond-true, cond-false}
 use Rattle.refusal.specs.declared.Check.{Check}
 use Rattle.refusal.specs.declared.Check.the-variants.{R8}
 use Rattle.refusal.specs.declared.MaybeCheck.the-variants as Maybe
 use Rattle.wire.specs.declared.number.MaybeU8.the-variants.{Some, None}
-use Rattle.engineering.specs.Gates.{fits, gatesAt}
+use Rattle.engineering.specs.Gates.{gatesFit, gatesAt}
 use Rattle.engineering.specs.declared.gates.Gates.{Gates}
+use Rattle.engineering.specs.declared.gates.MaybeGates.{MaybeGates}
 use Rattle.engineering.specs.declared.gates.MaybeGates.the-variants as MaybeGates
 use Rattle.engineering.proofs.Counts.{gates-some, gates-none}
 use Rattle.engineering.specs.Block.{extraCount, engineeringOf}
@@ -26,31 +27,24 @@ use Rattle.engineering.specs.declared.CheckedEngineering.{CheckedEnginee
 cancel : (i n : ℕ) → i + n - i ≡ n
 cancel i n = omega arith
 
-held : (t : Bool) → orFailed t R8 Maybe.None ≡ Maybe.None → t ≡ true
-held true e = refl
-held false e = let z : _≡_ {A = ℕ} 0 1 = cc in absurd (omega arith)
-
-broken : (t : Bool) {c : Check} → orFailed t R8 Maybe.None ≡ Maybe.Some c → t ≡ false
-broken true e = let z : _≡_ {A = ℕ} 0 1 = cc in absurd (omega arith)
-broken false e = refl
-
 module _ (b : List ℕ) where
   -- What is read where the block fits, and where it does not.
-  block-fits : fits b ≡ true → checkedBlock b ≡ record { failed = Maybe.None; engineering = engineeringOf b }
+  block-fits : gatesFit b ≡ true → checkedBlock b ≡ record { failed = Maybe.None; engineering = engineeringOf b }
   unfolding checkedBlock
   block-fits h = rw h
 
-  pub block-unfit : gatesAt b ≡ MaybeGates.None → checkedBlock b ≡ noBlock
+  pub block-unfit : (o : MaybeGates) (k : CheckedEngineering) → o ≡ gatesAt b → o ≡ MaybeGates.None → k ≡ noBlock
+      → k ≡ checkedBlock b
   unfolding checkedBlock
-  block-unfit h = rw (gates-none b h)
+  block-unfit o k e n f = rw (f, gates-none b (sym e ∙ n))
 
   -- The fields one by one, as they are read: g are the counts, p, q and r what is copied.
-  pub block-read : (g : Gates) {p q r : List ℕ} {n : ℕ} → gatesAt b ≡ MaybeGates.Some g
+  pub block-read : (o : MaybeGates) (g : Gates) {p q r : List ℕ} {n : ℕ} → o ≡ gatesAt b → o ≡ MaybeGates.Some g
       → p ≡ padded 9 (take (2 + g .moving - 2) (drop 2 b))
       → q ≡ padded 9 (take (2 + g .moving + g .stationary - (2 + g .moving)) (drop (2 + g .moving) b))
       → r ≡ padded 8 (take (length b - (2 + g .moving + g .stationary)) (drop (2 + g .moving + g .stationary) b))
       → n ≡ extraCount (take (length b - (2 + g .moving + g .stationary)) (drop (2 + g .moving + g .stationary) b))
-      → checkedBlock b ≡ record {
+      → record {
         failed = Maybe.None;
         engineering = record {
           «moving_gates» = g .moving;
@@ -60,9 +54,10 @@ module _ (b : List ℕ) where
           extra = r;
           «extra_len» = n;
         };
-      }
+      } ≡ checkedBlock b
   unfolding engineeringOf
-  block-read g h ep eq er en =
+  block-read o g e h ep eq er en =
+      let told = gates-some b g (sym e ∙ h) in
       rw (
         ep,
         eq,
@@ -71,22 +66,24 @@ module _ (b : List ℕ) where
         part-to-end b (2 + g .moving + g .stationary),
         cancel 2 (g .moving),
         cancel (2 + g .moving) (g .stationary),
-        gates-some b g h .1,
-      ) (block-fits (gates-some b g h .0))
+        told .1,
+      ) (sym (block-fits (told .0)))
 
   -- What the reader's answer says of the block.
   pub read-fits : (k : CheckedEngineering) → k ≡ checkedBlock b → k .failed ≡ Maybe.None
-      → (fits b ≡ true) × (k .engineering ≡ engineeringOf b)
+      → (gatesFit b ≡ true) × (k .engineering ≡ engineeringOf b)
   unfolding checkedBlock
   read-fits k e h =
-      let f : fits b ≡ true = held (fits b) (sym (ap (λ x. x .failed) e) ∙ h) in
+      let f : gatesFit b ≡ true = cond-true (gatesFit b) Maybe.None (Maybe.Some R8)
+      (sym (ap (λ x. x .failed) e) ∙ h) (λ q. cc) in
       (f, ap (λ x. x .engineering) e ∙ rw f)
 
   pub read-unfit : (k : CheckedEngineering) {c : Check} → k ≡ checkedBlock b → k .failed ≡ Maybe.Some c
-      → (fits b ≡ false) × (k .failed ≡ Maybe.Some R8)
+      → (gatesFit b ≡ false) × (k .failed ≡ Maybe.Some R8)
   unfolding checkedBlock
   read-unfit k e h =
-      let f : fits b ≡ false = broken (fits b) (sym (ap (λ x. x .failed) e) ∙ h) in
+      let f : gatesFit b ≡ false = cond-false (gatesFit b) Maybe.None (Maybe.Some R8)
+      (sym (ap (λ x. x .failed) e) ∙ h) (λ q. cc) in
       (f, ap (λ x. x .failed) e ∙ rw f)
 
 -- A reserved byte that was kept, and one that was not.

@@ -1,34 +1,31 @@
 -- The gate counts of an engineering block: when the block fits, and what they are read as.
-use mathlib.Core.Path.{_≡_, refl}
+use mathlib.Core.Path.{_≡_, refl, sym, _∙_}
 use mathlib.Core.List.{List}
-use mathlib.Core.Bool.{Bool, true, false}
-use Prim.Native.Nat.{ℕ, _+_, _≤_}
+use mathlib.Core.Bool.{Bool, true, false, and-eq-true-iff}
+use Prim.Native.Nat.{ℕ, _+_, _≤_, _<_}
 use native.Mathlib.Omega.{arith}
 use lib.ListN.{length, getD}
 use borrow.Author.Tests.{le-leb, leb-true}
-use Rattle.wire.proofs.Equality.{both-true}
-use Rattle.engineering.specs.Gates.{movingGates, stationaryGates, fits, gatesOf, gatesIf, gatesAt}
+use Rattle.wire.specs.Number.{byteAt}
+use Rattle.wire.specs.declared.number.MaybeU8.{MaybeU8}
+use Rattle.wire.specs.declared.number.MaybeU8.the-variants as U8
+use Rattle.wire.proofs.Numbers.{one, read-some, read-none, byte-is}
+use Rattle.wire.proofs.Conditions.{cond-true, cond-false}
+use Rattle.engineering.specs.Gates.{movingGates, stationaryGates, gatesFit, gatesOf, gatesAt}
 use Rattle.engineering.specs.declared.gates.Gates.{Gates}
+use Rattle.engineering.specs.declared.gates.MaybeGates.{MaybeGates}
 use Rattle.engineering.specs.declared.gates.MaybeGates.the-variants.{Some, None}
 
--- What `fits` tests: the two counts are there, each is in range, and the energies are there.
+-- What `gatesFit` tests: the two counts are there, each is in range, and the energies are there.
 pub record Fits (b : List ℕ) : Type 0 where
   pub counts : 2 ≤ length b
   pub moving : movingGates b ≤ 9
   pub stationary : stationaryGates b ≤ 9
   pub energies : 2 + movingGates b + stationaryGates b ≤ length b
 
-if-some : (t : Bool) (f g : Gates) → gatesIf t f ≡ Some g → (t ≡ true) × (g ≡ f)
-if-some true f g e = (refl, cc)
-if-some false f g e = let z : _≡_ {A = ℕ} 0 1 = cc in absurd (omega arith)
-
-if-none : (t : Bool) (f : Gates) → gatesIf t f ≡ None → t ≡ false
-if-none true f e = let z : _≡_ {A = ℕ} 0 1 = cc in absurd (omega arith)
-if-none false f e = refl
-
 module _ (b : List ℕ) where
-  pub fits-complete : Fits b → fits b ≡ true
-  unfolding fits
+  pub fits-complete : Fits b → gatesFit b ≡ true
+  unfolding gatesFit
   fits-complete h =
       rw (
         le-leb 2 (length b) (h .counts),
@@ -37,12 +34,12 @@ module _ (b : List ℕ) where
         le-leb (2 + movingGates b + stationaryGates b) (length b) (h .energies),
       )
 
-  pub fits-sound : fits b ≡ true → Fits b
-  unfolding fits
+  pub fits-sound : gatesFit b ≡ true → Fits b
+  unfolding gatesFit
   fits-sound e =
-      let x = both-true _ _ e in
-      let y = both-true _ _ (x .1) in
-      let z = both-true _ _ (y .1) in
+      let x = and-eq-true-iff _ _ .0 e in
+      let y = and-eq-true-iff _ _ .0 (x .1) in
+      let z = and-eq-true-iff _ _ .0 (y .1) in
       record {
         counts = leb-true 2 (length b) (x .0);
         moving = leb-true (movingGates b) 9 (y .0);
@@ -50,31 +47,60 @@ module _ (b : List ℕ) where
         energies = leb-true (2 + movingGates b + stationaryGates b) (length b) (z .1);
       }
 
-  pub fits-not : (Fits b → ⊥) → fits b ≡ false
-  fits-not h = go (fits b) refl
+  pub fits-not : (Fits b → ⊥) → gatesFit b ≡ false
+  fits-not h = go (gatesFit b) refl
     where
-      go : (t : Bool) → fits b ≡ t → fits b ≡ false
+      go : (t : Bool) → gatesFit b ≡ t → gatesFit b ≡ false
       go true e = absurd (h (fits-sound e))
       go false e = e
 
-  -- What is read where the block does not fit, and where it does, of the two bytes x and y in front.
-  pub gates-unfit : (Fits b → ⊥) → gatesAt b ≡ None
+  gates-unfit : (Fits b → ⊥) → None ≡ gatesAt b
   unfolding gatesAt
   gates-unfit h = rw (fits-not h)
 
-  pub gates-read : {x y : ℕ} → Fits b → x ≡ getD b 0 0 → y ≡ getD b 1 0
-      → gatesAt b ≡ Some (record { moving = x + 1; stationary = y + 1 })
-  unfolding gatesAt
-  gates-read h ex ey = rw (fits-complete h, ex, ey)
+  -- What is read: nothing where a count is missing or above nine, or the last energy is missing; else both counts.
+  pub gates-short : length b < 2 → None ≡ gatesAt b
+  gates-short h = gates-unfit (λ f. omega arith)
+
+  pub moving-above : (o : MaybeU8) (x : ℕ) → o ≡ byteAt b 0 → o ≡ U8.Some x → 9 < x + 1 → None ≡ gatesAt b
+  moving-above o x q e h = let at = byte-is b 0 (sym q ∙ e) in gates-unfit (λ f. omega arith)
+
+  pub stationary-above : (o : MaybeU8) (y : ℕ) → o ≡ byteAt b 1 → o ≡ U8.Some y → 9 < y + 1 → None ≡ gatesAt b
+  stationary-above o y q e h = let at = byte-is b 1 (sym q ∙ e) in gates-unfit (λ f. omega arith)
+
+  module _ (o p q : MaybeU8) (x y : ℕ) (eo : o ≡ byteAt b 0) (ox : o ≡ U8.Some x) (ep : p ≡ byteAt b 1)
+      (py : p ≡ U8.Some y) (eq : q ≡ byteAt b (1 + (x + 1) + (y + 1))) where
+    moving : x ≡ getD b 0 0
+    moving = byte-is b 0 (sym eo ∙ ox)
+
+    stationary : y ≡ getD b 1 0
+    stationary = byte-is b 1 (sym ep ∙ py)
+
+    pub energy-missing : q ≡ U8.None → None ≡ gatesAt b
+    energy-missing e =
+        let gone = read-none one b (1 + (x + 1) + (y + 1)) (sym eq ∙ e) in
+        gates-unfit (λ f. omega (arith, moving, stationary))
+
+    pub gates-read : (z : ℕ) → q ≡ U8.Some z → x + 1 ≤ 9 → y + 1 ≤ 9
+        → Some (record { moving = x + 1; stationary = y + 1 }) ≡ gatesAt b
+    unfolding gatesAt
+    gates-read z e h k =
+        let last = read-some one b (1 + (x + 1) + (y + 1)) (sym eq ∙ e) .inside in
+        let fit : Fits b = omega (arith, moving, stationary) in
+        rw (fits-complete fit, moving, stationary)
 
   -- What the counts say of the block.
-  pub gates-some : (g : Gates) → gatesAt b ≡ Some g → (fits b ≡ true) × (g ≡ gatesOf b)
+  pub gates-some : (g : Gates) → gatesAt b ≡ Some g → (gatesFit b ≡ true) × (g ≡ gatesOf b)
   unfolding gatesAt
-  gates-some g e = if-some (fits b) (gatesOf b) g e
+  gates-some g e = let t = cond-true (gatesFit b) _ None e (λ q. cc) in (t, cc)
 
-  pub gates-none : gatesAt b ≡ None → fits b ≡ false
+  pub gates-none : gatesAt b ≡ None → gatesFit b ≡ false
   unfolding gatesAt
-  gates-none e = if-none (fits b) (gatesOf b) e
+  gates-none e = cond-false (gatesFit b) _ None e (λ q. cc)
 
-  pub gates-inside : (g : Gates) → gatesAt b ≡ Some g → 2 + g .moving + g .stationary ≤ length b
-  gates-inside g e = let told = gates-some g e in rw (told .1) (fits-sound (told .0) .energies)
+  module _ (o : MaybeGates) (g : Gates) (e : o ≡ gatesAt b) (h : o ≡ Some g) where
+    pub gates-inside : 2 + g .moving + g .stationary ≤ length b
+    gates-inside = let told = gates-some g (sym e ∙ h) in rw (told .1) (fits-sound (told .0) .energies)
+
+    pub moving-inside : 2 + g .moving ≤ length b
+    moving-inside = let inside = gates-inside in omega arith

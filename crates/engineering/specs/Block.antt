@@ -1,7 +1,7 @@
 -- The engineering block of a report: `max_moving_gate`, `max_stationary_gate` (each 0 to 8), that many plus one
 -- energies of each, then reserved bytes.
 --   reserved b             the bytes after the energies
---   extraMost              the most that `extra_len` counts
+--   extraMax               the most that `extra_len` counts
 --   extraCount s           how many reserved bytes s are, as far as it counts
 --   engineeringOf b        what a block that fits is read as
 --   noEngineering          every field 0
@@ -11,16 +11,15 @@
 --   extraBytes e           the reserved bytes that were kept, with their valid count, at most 8
 --   extraAt e i            reserved byte i, or none
 use mathlib.Core.List.{List}
-use mathlib.Core.Bool.{Bool, true, false}
+use mathlib.Core.Bool.{Bool, cond}
 use Prim.Native.Nat.{ℕ, _+_, min}
 use lib.Dec.{ltb}
 use lib.ListN.{length, getD, take, drop, replicate}
 use Rattle.refusal.specs.Check.{orFailed}
 use Rattle.refusal.specs.declared.Check.the-variants.{R8}
 use Rattle.refusal.specs.declared.MaybeCheck.the-variants as Maybe
-use Rattle.engineering.specs.Gates.{movingGates, stationaryGates, fits}
+use Rattle.engineering.specs.Gates.{movingGates, stationaryGates, gatesFit}
 use Rattle.wire.specs.Prefix.{padded}
-use Rattle.wire.specs.Number.{answered, ifThere}
 use Rattle.wire.specs.declared.number.MaybeU8.{MaybeU8}
 use Rattle.wire.specs.declared.number.MaybeU8.the-variants.{Some, None}
 use Rattle.engineering.specs.declared.Engineering.{Engineering}
@@ -31,11 +30,11 @@ abbrev pub reserved : List ℕ → List ℕ
 reserved b = drop (2 + movingGates b + stationaryGates b) b
 
 -- "`extra_len` counts all of them and stops at 255"
-abbrev pub extraMost : ℕ
-extraMost = 255
+abbrev pub extraMax : ℕ
+extraMax = 255
 
 abbrev pub extraCount : List ℕ → ℕ
-extraCount s = min (length s) extraMost
+extraCount s = min (length s) extraMax
 
 -- "the first eight are kept"
 unfoldable pub engineeringOf : List ℕ → Engineering
@@ -60,11 +59,10 @@ noEngineering = record {
 
 -- "with the flag off, each per-gate field is 0"
 abbrev pub engineeringIf : Bool → List ℕ → Engineering
-engineeringIf true b = engineeringOf b
-engineeringIf false b = noEngineering
+engineeringIf flag b = cond flag (engineeringOf b) noEngineering
 
 unfoldable pub checkedBlock : List ℕ → CheckedEngineering
-checkedBlock b = record { failed = orFailed (fits b) R8 Maybe.None; engineering = engineeringIf (fits b) b }
+checkedBlock b = record { failed = orFailed (gatesFit b) R8 Maybe.None; engineering = engineeringIf (gatesFit b) b }
 
 abbrev pub noBlock : CheckedEngineering
 noBlock = record { failed = Maybe.Some R8; engineering = noEngineering }
@@ -74,4 +72,4 @@ extraBytes e = record { bytes = e .extra; count = min (e .«extra_len») 8 }
 
 -- "`light` and `out_pin` are reserved bytes 0 and 1, or none"
 unfoldable pub extraAt : Engineering → ℕ → MaybeU8
-extraAt e i = answered Some None (ifThere (ltb i (extraBytes e .count)) (getD (e .extra) i 0))
+extraAt e i = cond (ltb i (extraBytes e .count)) (Some (getD (e .extra) i 0)) None

@@ -1,11 +1,10 @@
 -- The two gate counts in front of an engineering block: `max_moving_gate`, `max_stationary_gate` (each 0 to 8).
 --   movingGates b, stationaryGates b   how many energies of each the block b announces
---   fits b                 the two counts are there and in range, and the energies are there
---   gatesOf b              the two counts of the block b
---   gatesIf there g        the counts g, if the block fits
---   gatesAt b              the two counts of the block b, if it fits
+--   gatesFit b   the two counts are there and in range, and the energies are there
+--   gatesOf b    the two counts of the block b
+--   gatesAt b    the two counts of the block b, if it fits
 use mathlib.Core.List.{List}
-use mathlib.Core.Bool.{Bool, true, false, _&&_}
+use mathlib.Core.Bool.{Bool, cond, _&&_}
 use Prim.Native.Nat.{ℕ, _+_}
 use lib.Dec.{leb}
 use lib.ListN.{length, getD}
@@ -21,16 +20,12 @@ abbrev pub stationaryGates : List ℕ → ℕ
 stationaryGates b = getD b 1 0 + 1
 
 -- "each 0 to 8", so at most nine energies
-unfoldable pub fits : List ℕ → Bool
-fits b = leb 2 (length b) && (leb (movingGates b) 9 && (leb (stationaryGates b) 9
+unfoldable pub gatesFit : List ℕ → Bool
+gatesFit b = leb 2 (length b) && (leb (movingGates b) 9 && (leb (stationaryGates b) 9
     && leb (2 + movingGates b + stationaryGates b) (length b)))
 
 abbrev pub gatesOf : List ℕ → Gates
 gatesOf b = record { moving = movingGates b; stationary = stationaryGates b }
 
-abbrev pub gatesIf : Bool → Gates → MaybeGates
-gatesIf true g = Some g
-gatesIf false g = None
-
 unfoldable pub gatesAt : List ℕ → MaybeGates
-gatesAt b = gatesIf (fits b) (gatesOf b)
+gatesAt b = cond (gatesFit b) (Some (gatesOf b)) None

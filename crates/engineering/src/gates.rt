@@ -19,7 +19,7 @@ pub enum MaybeGates {
 
 impl Gates {
     // Reads the counts of a block that fits (check R8): both are there and in range, and so are the energies.
-    pub fn read(block: &[u8]) -> MaybeGates
+    pub(crate) fn read(block: &[u8]) -> MaybeGates
         ensures read { λ r. ⌜ r ≡ gatesAt (now (block .entry)) ⌝ }
     {
         let MaybeU8::Some(max_moving_gate) = byte_at(block, 0) else {

@@ -13,7 +13,8 @@ use wire::MAX_EXTRA;
 use wire::MaybeU8;
 use wire::copy_prefix;
 use wire::gate_array;
-use wire::least;
+use wire::gate_values;
+use wire::min;
 ghost use mathlib.Core.Path.{_≡_};
 ghost use Rattle.wire.specs.Prefix.{padded};
 ghost use Rattle.wire.specs.Gate.{gateValues};
@@ -54,7 +55,7 @@ impl Engineering {
         ensures given { λ r. ⌜ r ≡ gateValues (self .«moving_energy») (self .«moving_gates») ⌝ }
     {
         let energies = self.moving_energy;
-        GateValues::new(energies, self.moving_gates as usize)
+        gate_values(energies, self.moving_gates as usize)
     }
 
     // Valid stationary energies, gate 0 first.
@@ -62,7 +63,7 @@ impl Engineering {
         ensures given { λ r. ⌜ r ≡ gateValues (self .«stationary_energy») (self .«stationary_gates») ⌝ }
     {
         let energies = self.stationary_energy;
-        GateValues::new(energies, self.stationary_gates as usize)
+        gate_values(energies, self.stationary_gates as usize)
     }
 
     // The reserved bytes that were kept.
@@ -72,7 +73,7 @@ impl Engineering {
         let bytes = self.extra;
         ExtraBytes {
             bytes,
-            count: least(self.extra_len as usize, MAX_EXTRA),
+            count: min(self.extra_len as usize, MAX_EXTRA),
         }
     }
 
@@ -102,28 +103,28 @@ impl Engineering {
             MaybeU8::None
         }
     }
+}
 
-    // Reads the bytes after the basic ones: two gate counts, the energies of each, then reserved bytes (check R8).
-    pub fn parse(block: &[u8]) -> CheckedEngineering
-        ensures checked { λ r. ⌜ r ≡ checkedBlock (now (block .entry)) ⌝ }
-    {
-        let MaybeGates::Some(gates) = Gates::read(block) else {
-            return no_block();
-        };
-        let moving_end = 2 + gates.moving as usize;
-        let stationary_end = moving_end + gates.stationary as usize;
-        let reserved = &block[stationary_end..];
-        CheckedEngineering {
-            failed: MaybeCheck::None,
-            engineering: Engineering {
-                moving_gates: gates.moving,
-                stationary_gates: gates.stationary,
-                moving_energy: gate_array(&block[2..moving_end]),
-                stationary_energy: gate_array(&block[moving_end..stationary_end]),
-                extra: extra_array(reserved),
-                extra_len: extra_count(reserved),
-            },
-        }
+// Reads the bytes after the basic ones: two gate counts, the energies of each, then reserved bytes (check R8).
+pub fn read_block(block: &[u8]) -> CheckedEngineering
+    ensures checked { λ r. ⌜ r ≡ checkedBlock (now (block .entry)) ⌝ }
+{
+    let MaybeGates::Some(gates) = Gates::read(block) else {
+        return no_block();
+    };
+    let moving_end = 2 + gates.moving as usize;
+    let stationary_end = moving_end + gates.stationary as usize;
+    let reserved = &block[stationary_end..];
+    CheckedEngineering {
+        failed: MaybeCheck::None,
+        engineering: Engineering {
+            moving_gates: gates.moving,
+            stationary_gates: gates.stationary,
+            moving_energy: gate_array(&block[2..moving_end]),
+            stationary_energy: gate_array(&block[moving_end..stationary_end]),
+            extra: extra_array(reserved),
+            extra_len: extra_count(reserved),
+        },
     }
 }
 
@@ -155,7 +156,7 @@ fn no_block() -> CheckedEngineering
 fn extra_count(reserved: &[u8]) -> u8
     ensures counted { λ r. ⌜ r ≡ extraCount (now (reserved .entry)) ⌝ }
 {
-    least(reserved.len(), EXTRA_LEN_MAX) as u8
+    min(reserved.len(), EXTRA_LEN_MAX) as u8
 }
 
 // The first reserved bytes, 0 where there are fewer than are kept.

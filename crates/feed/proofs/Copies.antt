@@ -6,19 +6,19 @@ use Prim.Native.Nat.{ℕ, _+_, _-_, _≤_, _<_, min}
 use native.Mathlib.Omega.{arith}
 use lib.ListN.{length, getD, set}
 use Rattle.wire.specs.declared.Kind.{Kind}
-use Rattle.scan.specs.Scan.{at, inOrder}
-use Rattle.scan.specs.Start.{went}
+use Rattle.scan.specs.Scan.{at, wellFormed}
+use Rattle.scan.specs.Start.{continued}
 use Rattle.step.specs.Step.{stepData, stepOf, stored}
 use Rattle.scan.specs.Scan.{dataAt}
-use Rattle.step.specs.Phase.{runFrom, onFrom, Stands, Onward}
+use Rattle.step.specs.Phase.{runFrom, onFrom, AtState, PartialRun, DataRun}
 use Rattle.scan.specs.declared.State.the-variants.{Data, Tail}
 use Rattle.scan.specs.declared.Scan.{Scan}
 use Rattle.scan.specs.declared.stats.Stats.{Stats}
 use Rattle.scan.specs.declared.stats.Ended.the-variants.{Nothing}
 use Rattle.scan.specs.declared.stats.Scanned.{Scanned}
-use Rattle.scan.proofs.Orders.{data-range, data-inside, data-most, data-at-order}
+use Rattle.scan.proofs.Orders.{data-range, data-inside, data-most, data-at-formed}
 use Rattle.step.proofs.Runs.{run-next, run-on}
-use Rattle.scan.proofs.Behind.{data-some}
+use Rattle.scan.proofs.DataAt.{data-some, data-whole}
 use Rattle.step.proofs.Turns.{data-step, step-as, stored-as}
 
 -- The n bytes from number i on are there, and no more than the data bytes that are due.
@@ -28,9 +28,9 @@ pub record Due (limit : ℕ) (c : Scan) (bs : List ℕ) (i n : ℕ) : Type 0 whe
   pub due : c .pos + n ≤ c .len
   pub few : c .len ≤ limit
 
-pub least-due : (limit : ℕ) (c : Scan) (bs : List ℕ) (i n : ℕ) → Stands limit Data c bs i
+pub min-due : (limit : ℕ) (c : Scan) (bs : List ℕ) (i n : ℕ) → AtState limit Data c bs i
     → n ≡ min (c .len - c .pos) (length bs - i) → Due limit c bs i n
-least-due limit c bs i n h e =
+min-due limit c bs i n h e =
     let l : c .pos < c .len = data-inside limit c (h .order) (h .state) in
     record {
       some = omega (arith, h .inside);
@@ -38,11 +38,6 @@ least-due limit c bs i n h e =
       due = omega arith;
       few = data-most limit c (h .order) (h .state);
     }
-
--- Where more bytes are left, all that are due are there.
-pub due-whole : (limit : ℕ) (c : Scan) (bs : List ℕ) (i n : ℕ) → n ≡ min (c .len - c .pos) (length bs - i)
-    → i + n ≤ length bs → (i + n ≡ length bs → ⊥) → c .len ≤ c .pos + n
-due-whole limit c bs i n e l more = omega arith
 
 -- The run from number i with p of n data bytes taken is the run from number i + j with j more, copied to d.
 abbrev pub Copied : ℕ → Kind → ℕ → ℕ → Stats → List ℕ → List ℕ → ℕ → List ℕ → ℕ → Type 0
@@ -63,8 +58,8 @@ module _ (limit : ℕ) (k : Kind) (n p : ℕ) (st : Stats) (buf bs : List ℕ) (
       let b = getD bs (i + j) 0 in
       ap (λ q. runFrom limit (dataAt k n q) st (set d (p + j) b) bs (i + (j + 1))) (omega arith)
       ∙ ap (λ q. runFrom limit (dataAt k n (p + j + 1)) st (set d (p + j) b) bs q) (omega arith)
-      ∙ run-on limit (at Data k 0 n (p + j)) st d bs (i + j) (went (dataAt k n (p + j + 1)) st) (set d (p + j) b) inner
-      (sym (data-step st k n (p + j))) refl refl
+      ∙ run-on limit (at Data k 0 n (p + j)) st d bs (i + j) (continued (dataAt k n (p + j + 1)) st) (set d (p + j) b)
+      inner (sym (data-step st k n (p + j))) refl refl
       ∙ ap (λ q. runFrom limit q st d bs (i + j)) (sym (data-some k n (p + j) l)) ∙ h
 
 -- In the data the matched count has no use.
@@ -78,34 +73,85 @@ data-forgets limit c st buf bs i e l =
     ∙ run-next limit c st buf bs i r d l (step-as c Data e (getD bs i 0) limit st)
     (stored-as c Data e (getD bs i 0) buf)
 
--- With n bytes copied, the scan after them is x.
-module _ (limit : ℕ) (c : Scan) (st : Stats) (buf bs : List ℕ) (i : ℕ) (h : Stands limit Data c bs i) (d : List ℕ)
-    (n : ℕ)
-    (all : Due limit c bs i n) (x : Scan) (e : dataAt (c .kind) (c .len) (c .pos + n) ≡ x)
-    (came : Copied limit (c .kind) (c .len) (c .pos) st buf bs i d n) where
-  copied-same : runFrom limit x st d bs (i + n) ≡ runFrom limit c st buf bs i
-  copied-same = rw (← e) (came ∙ data-forgets limit c st buf bs i (h .state) (h .inside))
+tail-no-data : Tail ≡ Data → ⊥
+tail-no-data e = let z : _≡_ {A = ℕ} 0 1 = cc in omega arith
 
-  copied-order : inOrder limit x ≡ true
+-- As many bytes as are due or there, n of them, are copied to d.
+pub record AllCopied (limit : ℕ) (c : Scan) (st : Stats) (buf bs : List ℕ) (i : ℕ) (d : List ℕ) (n : ℕ) : Type 0 where
+  pub start : AtState limit Data c bs i
+  pub fewest : n ≡ min (c .len - c .pos) (length bs - i)
+  pub came : Copied limit (c .kind) (c .len) (c .pos) st buf bs i d n
+
+module _ {limit : ℕ} {c : Scan} {st : Stats} {buf bs : List ℕ} {i : ℕ} {d : List ℕ} {n : ℕ}
+    (x : AllCopied limit c st buf bs i d n) where
+  all : Due limit c bs i n
+  all = min-due limit c bs i n (x .start) (x .fewest)
+
+  copied-same : runFrom limit (dataAt (c .kind) (c .len) (c .pos + n)) st d bs (i + n) ≡ runFrom limit c st buf bs i
+  copied-same = x .came ∙ data-forgets limit c st buf bs i (x .start .state) (x .start .inside)
+
+  copied-order : wellFormed limit (dataAt (c .kind) (c .len) (c .pos + n)) ≡ true
   copied-order =
-      rw (← e) (data-at-order limit (c .kind) (c .len) (c .pos + n) (data-range limit c (h .order) (h .state)))
+      data-at-formed limit (c .kind) (c .len) (c .pos + n) (data-range limit c (x .start .order) (x .start .state))
 
-  pub copied-onward : Onward limit c st buf bs i (record { scan = x; stats = st; ended = Nothing; taken = i + n }) d
-  unfolding onFrom
-  copied-onward = record {
-    forth = omega (arith, all .some);
+  copied-run : (c′ : Scan) → c′ ≡ dataAt (c .kind) (c .len) (c .pos + n)
+      → (i + n < length bs → c′ .state ≡ Data → ⊥)
+      → DataRun limit c st buf bs i (record { scan = c′; stats = st; ended = Nothing; taken = i + n }) d
+  copied-run c′ e p = record {
+    forth = omega arith;
     inside = all .there;
-    order = copied-order;
-    rest = copied-same;
+    order = rw e copied-order;
+    quiet = refl;
+    past = p;
+    rest = rw e copied-same;
   }
 
-  pub copied-stands : x .state ≡ Tail → i + n < length bs → Stands limit Tail x bs (i + n)
-  copied-stands s l = record { order = copied-order; state = s; inside = l }
+  -- All that are there: none is left.
+  pub copied-last : i + n ≡ length bs → DataRun limit c st buf bs i
+      (record { scan = dataAt (c .kind) (c .len) (c .pos + n); stats = st; ended = Nothing; taken = i + n }) d
+  copied-last e = copied-run _ refl (λ l. absurd (omega arith))
 
-  pub copied-then : (r : Scanned) → Onward limit x st d bs (i + n) r d → Onward limit c st buf bs i r d
-  copied-then r f = record {
-    forth = omega (arith, f .forth);
-    inside = f .inside;
-    order = f .order;
-    rest = f .rest ∙ copied-same;
+  -- Or all that are due, and the tail follows.
+  pub copied-whole : (i + n ≡ length bs → ⊥) → DataRun limit c st buf bs i
+      (record { scan = at Tail (c .kind) 0 (c .len) (c .len); stats = st; ended = Nothing; taken = i + n }) d
+  copied-whole more = copied-run _
+      (sym (data-whole (c .kind) (c .len) (c .pos + n) (omega (arith, all .there, x .fewest)))) (λ l. tail-no-data)
+
+-- Outside the data nothing is copied.
+pub copied-nothing : (limit : ℕ) (c : Scan) (st : Stats) (buf bs : List ℕ) (i : ℕ) → wellFormed limit c ≡ true
+    → i < length bs → (c .state ≡ Data → ⊥)
+    → DataRun limit c st buf bs i (record { scan = c; stats = st; ended = Nothing; taken = i }) buf
+copied-nothing limit c st buf bs i o l n = record {
+  forth = omega arith;
+  inside = omega arith;
+  order = o;
+  quiet = refl;
+  past = λ h. n;
+  rest = refl;
+}
+
+-- After the data bytes: no more are there, or a part that is stored nowhere follows.
+module _ {limit : ℕ} {c : Scan} {st : Stats} {buf bs : List ℕ} {i : ℕ} {r : Scanned} {d : List ℕ}
+    (x : DataRun limit c st buf bs i r d) where
+  pub data-last : i < length bs → r .taken ≡ length bs → PartialRun limit c st buf bs i r d
+  unfolding onFrom
+  data-last l e = record { forth = omega arith; inside = x .inside; order = x .order; rest = rw (x .quiet) (x .rest) }
+
+  pub data-then : {q : Scanned} → PartialRun limit (r .scan) (r .stats) d bs (r .taken) q d
+      → PartialRun limit c st buf bs i q d
+  data-then h = record {
+    forth = omega (arith, h .forth, x .forth);
+    inside = h .inside;
+    order = h .order;
+    rest = h .rest ∙ x .rest;
   }
+
+  module _ (more : r .taken ≡ length bs → ⊥) where
+    left : r .taken < length bs
+    left = omega (arith, x .inside)
+
+    pub data-here : AtState limit (r .scan .state) (r .scan) bs (r .taken)
+    data-here = record { order = x .order; state = refl; inside = left }
+
+    pub data-past : r .scan .state ≡ Data → ⊥
+    data-past = x .past left

@@ -34,9 +34,9 @@ module _ (c : Scan) (st : Stats) (buf : List ℕ) where
   abbrev moved : Stats → Frame → Moved
   moved s x = record { scan = c; stats = s; answer = x }
 
-  pub emits-frame : (e : Ended) (k : Kind) (n : ℕ) (x : Frame) (s : Stats) → e ≡ Is.Frame k n
+  pub emits-frame : {e : Ended} {k : Kind} {n : ℕ} {x : Frame} {s : Stats} → e ≡ Is.Frame k n
       → x ≡ decoded 4 k (take n buf) .frame → s ≡ counted (isFrame (x .kind)) st → moved s x ≡ emitted e c st buf
-  emits-frame e k n x s ended frame counts = rw (ended, counts, frame, decoded-is 4 k (take n buf))
+  emits-frame {k = k} {n = n} ended frame counts = rw (ended, counts, frame, decoded-is 4 k (take n buf))
 
-  pub emits-none : (e : Ended) (x : Frame) → e ≡ Is.Nothing → x ≡ noFrame → moved st x ≡ emitted e c st buf
-  emits-none e x ended none = rw (ended, none)
+  pub emits-none : {e : Ended} {x : Frame} → e ≡ Is.Nothing → x ≡ noFrame → moved st x ≡ emitted e c st buf
+  emits-none ended none = rw (ended, none)

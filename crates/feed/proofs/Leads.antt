@@ -1,8 +1,8 @@
--- Where the steps lead that may take more than one byte of a part: which end no frame, and the state after a header.
-use mathlib.Core.Path.{_≡_, refl}
+-- Where the steps lead that store nothing: which end no frame, and which come to a tail.
+use mathlib.Core.Path.{_≡_, refl, sym, ap, _∙_}
+use mathlib.Core.Bool.{Bool, true, false, true≢false}
 use Prim.Native.Nat.{ℕ, _+_, _*_}
-use native.Mathlib.Omega.{arith}
-use lib.Dec.{ltb, eqb}
+use lib.Dec.{eqb}
 use lib.ListN.{getD}
 use Rattle.wire.specs.Family.{header, tail, startingWith}
 use Rattle.wire.specs.declared.Kind.{Kind}
@@ -10,7 +10,7 @@ use Rattle.wire.specs.declared.MaybeKind.{MaybeKind}
 use Rattle.wire.specs.declared.MaybeKind.the-variants.{Some, None}
 use Rattle.stream.specs.Length.{inRange}
 use Rattle.scan.specs.Start.{abandoned, startAs, startOf}
-use Rattle.step.specs.Step.{stepHeader, stepLen, stepData, stepTail, stepIn}
+use Rattle.step.specs.Step.{stepHeader, stepLen, stepTail, stepIn}
 use Rattle.scan.specs.declared.State.{State}
 use Rattle.scan.specs.declared.State.the-variants.{Header, Len, Data, Tail}
 use Rattle.scan.specs.declared.stats.Stats.{Stats}
@@ -18,55 +18,59 @@ use Rattle.scan.specs.declared.stats.Ended.the-variants.{Nothing}
 use Rattle.scan.specs.declared.stats.Stepped.{Stepped}
 use Rattle.step.proofs.Turns.{either}
 
--- No frame ended, and a header is looked for.
-pub record Started (r : Stepped) : Type 0 where
+abbrev inTail : State → Bool
+inTail Header = false
+inTail Len = false
+inTail Data = false
+inTail Tail = true
+
+-- No frame ended, and it is not in a tail.
+record Early (r : Stepped) : Type 0 where
   pub quiet : r .ended ≡ Nothing
-  pub state : r .scan .state ≡ Header
+  pub early : inTail (r .scan .state) ≡ false
 
-start-as : (st : Stats) (o : MaybeKind) → Started (startAs st o)
-start-as st (Some k) = record { quiet = refl; state = refl }
-start-as st None = record { quiet = refl; state = refl }
+-- A step from the state s: one that stays there ends no frame, and one to a tail comes from a tail.
+pub record Leads (s : State) (r : Stepped) : Type 0 where
+  pub quiet : r .scan .state ≡ s → r .ended ≡ Nothing
+  pub tail : r .scan .state ≡ Tail → s ≡ Tail
 
-started : (st : Stats) (b : ℕ) → Started (startOf st b)
+early-leads : (s : State) (r : Stepped) → Early r → Leads s r
+early-leads s r h = record {
+  quiet = λ e. h .quiet;
+  tail = λ e. absurd (true≢false (ap inTail (sym e) ∙ h .early));
+}
+
+start-as : (st : Stats) (o : MaybeKind) → Early (startAs st o)
+start-as st (Some k) = record { quiet = refl; early = refl }
+start-as st None = record { quiet = refl; early = refl }
+
+started : (st : Stats) (b : ℕ) → Early (startOf st b)
 unfolding startOf
 started st b = start-as st (startingWith b)
 
--- No frame ended, and what is no header any more is a length.
-pub record Headed (r : Stepped) : Type 0 where
-  pub quiet : r .ended ≡ Nothing
-  pub whole : (r .scan .state ≡ Header → ⊥) → r .scan .state ≡ Len
-
-started-headed : (r : Stepped) → Started r → Headed r
-started-headed r h = record { quiet = h .quiet; whole = λ n. absurd (n (h .state)) }
-
 module _ (k : Kind) (m : ℕ) (st : Stats) (b : ℕ) where
-  pub header-leads : Headed (stepHeader k m st b)
-  header-leads = either Headed (eqb m 0) _ _ (λ z. started-headed _ (started st b))
-      (λ z. either Headed (eqb b (getD (header k) m 0)) _ _
-      (λ e. either Headed (eqb m 3) _ _ (λ t. record { quiet = refl; whole = λ n. refl })
-      (λ t. record { quiet = refl; whole = λ n. absurd (n refl) }))
-      (λ e. started-headed _ (started (abandoned st m) b)))
+  header-early : Early (stepHeader k m st b)
+  header-early = either Early (eqb m 0) _ _ (λ z. started st b)
+      (λ z. either Early (eqb b (getD (header k) m 0)) _ _
+      (λ e. either Early (eqb m 3) _ _ (λ t. record { quiet = refl; early = refl })
+      (λ t. record { quiet = refl; early = refl }))
+      (λ e. started (abandoned st m) b))
 
-  -- A step that stays in its state ends no frame: a frame ends in the state that looks for a header.
-  abbrev Stays : State → Stepped → Type 0
-  Stays s r = r .scan .state ≡ s → r .ended ≡ Nothing
+  length-early : (limit n : ℕ) → Early (stepLen limit k m n st b)
+  length-early limit n = either Early (eqb m 0) _ _ (λ z. record { quiet = refl; early = refl })
+      (λ z. either Early (inRange limit (n + 256 * b)) _ _ (λ e. record { quiet = refl; early = refl })
+      (λ e. started (abandoned st 5) b))
 
-  length-stays : (limit n : ℕ) → Stays Len (stepLen limit k m n st b)
-  length-stays limit n = either (Stays Len) (eqb m 0) _ _ (λ z h. refl)
-      (λ z. either (Stays Len) (inRange limit (n + 256 * b)) _ _ (λ e h. refl)
-      (λ e h. started (abandoned st 5) b .quiet))
+  -- A frame ends in the state that looks for a header.
+  tail-leads : (n : ℕ) → Leads Tail (stepTail k m n st b)
+  tail-leads n = either (Leads Tail) (eqb b (getD (tail k) m 0)) _ _
+      (λ e. either (Leads Tail) (eqb m 3) _ _
+      (λ t. record { quiet = λ h. absurd (true≢false (ap inTail (sym h))); tail = λ h. refl })
+      (λ t. record { quiet = λ h. refl; tail = λ h. refl }))
+      (λ e. early-leads Tail _ (started (abandoned st (6 + n + m)) b))
 
-  data-stays : (n p : ℕ) → Stays Data (stepData k n p st)
-  data-stays n p = either (Stays Data) (ltb (p + 1) n) _ _ (λ l h. refl) (λ l h. refl)
-
-  tail-stays : (n : ℕ) → Stays Tail (stepTail k m n st b)
-  tail-stays n = either (Stays Tail) (eqb b (getD (tail k) m 0)) _ _
-      (λ e. either (Stays Tail) (eqb m 3) _ _
-      (λ t h. let z : _≡_ {A = ℕ} 0 1 = cc in absurd (omega arith)) (λ t h. refl))
-      (λ e h. started (abandoned st (6 + n + m)) b .quiet)
-
-  pub stays-quiet : (limit : ℕ) (s : State) (n p : ℕ) → Stays s (stepIn limit s k m n p st b)
-  stays-quiet limit Header n p = λ h. header-leads .quiet
-  stays-quiet limit Len n p = length-stays limit n
-  stays-quiet limit Data n p = data-stays n p
-  stays-quiet limit Tail n p = tail-stays n
+  pub part-leads : (limit : ℕ) (s : State) (n p : ℕ) → (s ≡ Data → ⊥) → Leads s (stepIn limit s k m n p st b)
+  part-leads limit Header n p o = early-leads Header _ header-early
+  part-leads limit Len n p o = early-leads Len _ (length-early limit n)
+  part-leads limit Data n p o = absurd (o refl)
+  part-leads limit Tail n p o = tail-leads n

@@ -7,7 +7,7 @@ use Prim.Native.Nat.{ℕ}
 use lib.ListN.{take}
 use Rattle.frame.specs.Frame.{noFrame, decoded}
 use Rattle.stream.specs.Deliver.{holds}
-use Rattle.scan.specs.Scan.{settled}
+use Rattle.scan.specs.Scan.{orReset}
 use Rattle.step.specs.Step.{stepOf, stored}
 use Rattle.scan.specs.Start.{counted}
 use Rattle.step.specs.Slice.{Run, runOf}
@@ -27,12 +27,12 @@ emitted (Is.Frame k n) c st buf = record {
 }
 
 unfoldable pub bufOf : ℕ → Scan → List ℕ → ℕ → List ℕ
-bufOf limit c buf b = stored (settled limit c) buf b
+bufOf limit c buf b = stored (orReset limit c) buf b
 
 unfoldable pub movedOf : ℕ → Scan → Stats → List ℕ → ℕ → Moved
 movedOf limit c st buf b =
-    let r = stepOf limit (settled limit c) st b in
-    emitted (r .ended) (r .scan) (r .stats) (stored (settled limit c) buf b)
+    let r = stepOf limit (orReset limit c) st b in
+    emitted (r .ended) (r .scan) (r .stats) (stored (orReset limit c) buf b)
 
 abbrev pub runMoved : Run → MovedSlice
 runMoved r =
@@ -40,7 +40,7 @@ runMoved r =
     record { scan = m .scan; stats = m .stats; answer = record { count = r .scanned .taken; frame = m .answer } }
 
 unfoldable pub sliceBufOf : ℕ → Scan → Stats → List ℕ → List ℕ → List ℕ
-sliceBufOf limit c st buf bs = runOf limit (settled limit c) st buf bs .buf
+sliceBufOf limit c st buf bs = runOf limit (orReset limit c) st buf bs .buf
 
 unfoldable pub sliceMovedOf : ℕ → Scan → Stats → List ℕ → List ℕ → MovedSlice
-sliceMovedOf limit c st buf bs = runMoved (runOf limit (settled limit c) st buf bs)
+sliceMovedOf limit c st buf bs = runMoved (runOf limit (orReset limit c) st buf bs)

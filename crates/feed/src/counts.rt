@@ -4,6 +4,7 @@ use scan::Scan;
 use scan::State;
 use scan::Stats;
 use scan::Stepped;
+use scan::hunting;
 use wire::Kind;
 use wire::MaybeKind;
 use wire::bump;
@@ -11,7 +12,7 @@ ghost use mathlib.Core.Path.{_≡_};
 ghost use Rattle.scan.specs.Start.{abandoned, startOf, counted};
 
 // Gives up a frame in progress whose first `consumed` bytes were taken.
-pub fn abandon(stats: Stats, consumed: usize) -> Stats
+pub(crate) fn abandon(stats: Stats, consumed: usize) -> Stats
     ensures counted { λ r. ⌜ r ≡ abandoned stats consumed ⌝ }
 {
     Stats {
@@ -23,7 +24,7 @@ pub fn abandon(stats: Stats, consumed: usize) -> Stats
 }
 
 // Counts a whole frame, by whether it decodes.
-pub fn count(stats: Stats, decodes: bool) -> Stats
+pub(crate) fn count(stats: Stats, decodes: bool) -> Stats
     ensures counted { λ r. ⌜ r ≡ counted decodes stats ⌝ }
 {
     if decodes {
@@ -44,7 +45,7 @@ pub fn count(stats: Stats, decodes: bool) -> Stats
 }
 
 // Treats `byte` as a possible first header byte.
-pub fn start(stats: Stats, byte: u8) -> Stepped
+pub(crate) fn start(stats: Stats, byte: u8) -> Stepped
     ensures started { λ r. ⌜ r ≡ startOf stats byte ⌝ }
 {
     match Kind::starting_with(byte) {
@@ -60,7 +61,7 @@ pub fn start(stats: Stats, byte: u8) -> Stepped
             ended: Ended::Nothing,
         },
         MaybeKind::None => Stepped {
-            scan: Scan::hunting(),
+            scan: hunting(),
             stats: Stats {
                 frames: stats.frames,
                 resyncs: stats.resyncs,

@@ -4,12 +4,14 @@ use crate::run::run_at;
 use crate::run::step_at;
 use frame::Frame;
 use frame::FrameKind;
+use frame::decode_data;
+use frame::no_frame;
 use scan::Ended;
 use scan::Scan;
 use scan::Stats;
 use wire::Kind;
 use wire::MAX_FRAME;
-use wire::least;
+use wire::min;
 ghost use mathlib.Core.Path.{_≡_};
 ghost use lib.ListN.{take};
 ghost use Rattle.frame.specs.Frame.{decoded};
@@ -43,8 +45,8 @@ fn emit(buf: &[u8; MAX_FRAME], kind: Kind, len: usize) -> Frame
     ensures emitted { λ r. ⌜ r ≡ decoded 4 kind (take len (now (buf .entry))) .frame ⌝ }
 {
     let all: &[u8] = buf;
-    let n = least(len, MAX_FRAME);
-    let decoded = Frame::decode(kind, &all[..n]);
+    let n = min(len, MAX_FRAME);
+    let decoded = decode_data(kind, &all[..n]);
     decoded.frame
 }
 
@@ -81,7 +83,7 @@ pub fn feed_at(buf: &mut [u8; MAX_FRAME], scan: Scan, stats: Stats, byte: u8) ->
         Ended::Nothing => Moved {
             scan: next,
             stats: counted,
-            answer: Frame::none(),
+            answer: no_frame(),
         },
     }
 }
@@ -117,7 +119,7 @@ pub fn feed_slice_at(
             stats: counted,
             answer: Taken {
                 count: run.taken,
-                frame: Frame::none(),
+                frame: no_frame(),
             },
         },
     }

@@ -1,8 +1,8 @@
 // Bytes fed into a lent buffer: a byte's step, the run of a slice; a frame that ended is decoded and counted.
 mod counts;
 mod feeding;
-mod place;
 mod run;
+mod scans;
 
 pub use feeding::Moved;
 pub use feeding::MovedSlice;

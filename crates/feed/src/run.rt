@@ -1,31 +1,33 @@
 // What bytes do to a scan: one byte's step, and the run of a slice, without what the frames hold.
 use crate::counts::abandon;
 use crate::counts::start;
-use crate::place::in_data;
-use crate::place::in_header;
-use crate::place::in_len;
-use crate::place::in_tail;
+use crate::scans::in_data;
+use crate::scans::in_header;
+use crate::scans::in_len;
+use crate::scans::in_tail;
 use scan::Ended;
 use scan::Scan;
 use scan::Scanned;
 use scan::State;
 use scan::Stats;
 use scan::Stepped;
+use scan::hunting;
+use scan::or_reset;
 use stream::in_range;
 use wire::Kind;
 use wire::MAX_FRAME;
 
 mod parts;
 
-pub use parts::run_at;
+pub(crate) use parts::run_at;
 ghost use mathlib.Core.Path.{_≡_};
 ghost use mathlib.Core.Bool.{true};
 ghost use Prim.Native.Nat.{_≤_, _<_};
 ghost use lib.ListN.{getD};
 ghost use Rattle.wire.specs.Family.{header, tail};
 ghost use Rattle.stream.specs.Length.{linkLimit};
-ghost use Rattle.scan.specs.Scan.{inOrder, settled};
-ghost use Rattle.scan.specs.Start.{went, takingOf};
+ghost use Rattle.scan.specs.Scan.{wellFormed, orReset};
+ghost use Rattle.scan.specs.Start.{continued, takingOf};
 ghost use Rattle.step.specs.Step.{stepHeader, stepLen, stepData, stepTail, stepOf, stored};
 
 // The header byte that follows `matched` of them.
@@ -51,8 +53,8 @@ fn tail_byte(kind: Kind, matched: usize) -> u8
 }
 
 // The frame in progress goes on.
-fn went(scan: Scan, stats: Stats) -> Stepped
-    ensures stepped { λ r. ⌜ r ≡ went scan stats ⌝ }
+fn continued(scan: Scan, stats: Stats) -> Stepped
+    ensures stepped { λ r. ⌜ r ≡ continued scan stats ⌝ }
 {
     Stepped {
         scan,
@@ -76,7 +78,7 @@ fn taking(stepped: Stepped, taken: usize) -> Scanned
     }
 }
 
-// A byte where a header byte is due.
+// A byte where a header byte is due. That 3 are matched is asked by `>=`, which leaves the compiler no number above.
 fn step_header(kind: Kind, matched: usize, stats: Stats, byte: u8) -> Stepped
     requires { ⌜ matched ≤ 3 ⌝ }
     ensures stepped { λ r. ⌜ r ≡ stepHeader kind matched stats byte ⌝ }
@@ -87,10 +89,10 @@ fn step_header(kind: Kind, matched: usize, stats: Stats, byte: u8) -> Stepped
     if byte != header_byte(kind, matched) {
         return start(abandon(stats, matched), byte);
     }
-    if matched == 3 {
-        return went(in_len(kind, 0, 0), stats);
+    if matched >= 3 {
+        return continued(in_len(kind, 0, 0), stats);
     }
-    went(in_header(kind, matched + 1), stats)
+    continued(in_header(kind, matched + 1), stats)
 }
 
 // A byte of the length. The second of a length out of range is tried as a new start.
@@ -99,11 +101,11 @@ fn step_len(kind: Kind, matched: usize, len: usize, stats: Stats, byte: u8) -> S
     ensures stepped { λ r. ⌜ r ≡ stepLen linkLimit kind matched len stats byte ⌝ }
 {
     if matched == 0 {
-        return went(in_len(kind, 1, byte as usize), stats);
+        return continued(in_len(kind, 1, byte as usize), stats);
     }
     let whole = len + 256 * byte as usize;
     if in_range(whole) {
-        return went(in_data(kind, whole, 0), stats);
+        return continued(in_data(kind, whole, 0), stats);
     }
     // The header and the first length byte; `start` accounts for this one.
     start(abandon(stats, 4 + 1), byte)
@@ -114,7 +116,7 @@ fn step_data(kind: Kind, len: usize, pos: usize, stats: Stats) -> Stepped
     requires { ⌜ pos < len ⌝ }
     ensures stepped { λ r. ⌜ r ≡ stepData kind len pos stats ⌝ }
 {
-    went(in_data(kind, len, pos + 1), stats)
+    continued(in_data(kind, len, pos + 1), stats)
 }
 
 // A byte where a tail byte is due. The last of them ends the frame.
@@ -125,19 +127,19 @@ fn step_tail(kind: Kind, matched: usize, len: usize, stats: Stats, byte: u8) -> 
     if byte != tail_byte(kind, matched) {
         return start(abandon(stats, 4 + 2 + len + matched), byte);
     }
-    if matched == 3 {
+    if matched >= 3 {
         return Stepped {
-            scan: Scan::hunting(),
+            scan: hunting(),
             stats,
             ended: Ended::Frame(kind, len),
         };
     }
-    went(in_tail(kind, matched + 1, len), stats)
+    continued(in_tail(kind, matched + 1, len), stats)
 }
 
 // Advances the state machine by one byte.
 fn step(scan: Scan, stats: Stats, byte: u8) -> Stepped
-    requires { ⌜ inOrder linkLimit scan ≡ true ⌝ }
+    requires { ⌜ wellFormed linkLimit scan ≡ true ⌝ }
     ensures stepped { λ r. ⌜ r ≡ stepOf linkLimit scan stats byte ⌝ }
 {
     let state = scan.state;
@@ -152,7 +154,7 @@ fn step(scan: Scan, stats: Stats, byte: u8) -> Stepped
 
 // Stores a data byte.
 fn store(buf: &mut [u8; MAX_FRAME], scan: Scan, byte: u8)
-    requires { ⌜ inOrder linkLimit scan ≡ true ⌝ }
+    requires { ⌜ wellFormed linkLimit scan ≡ true ⌝ }
     ensures stored { λ _. ⌜ now (buf .exit) ≡ stored scan (now (buf .entry)) byte ⌝ }
 {
     let state = scan.state;
@@ -163,11 +165,11 @@ fn store(buf: &mut [u8; MAX_FRAME], scan: Scan, byte: u8)
 }
 
 // One byte, into a buffer that is lent. A scan with a number out of range is handled as if reset came first.
-pub fn step_at(buf: &mut [u8; MAX_FRAME], scan: Scan, stats: Stats, byte: u8) -> Stepped
-    ensures stepped { λ r. ⌜ (r ≡ stepOf linkLimit (settled linkLimit scan) stats byte)
-        × (now (buf .exit) ≡ stored (settled linkLimit scan) (now (buf .entry)) byte) ⌝ }
+pub(crate) fn step_at(buf: &mut [u8; MAX_FRAME], scan: Scan, stats: Stats, byte: u8) -> Stepped
+    ensures stepped { λ r. ⌜ (r ≡ stepOf linkLimit (orReset linkLimit scan) stats byte)
+        × (now (buf .exit) ≡ stored (orReset linkLimit scan) (now (buf .entry)) byte) ⌝ }
 {
-    let at = scan.settled();
+    let at = or_reset(scan);
     store(buf, at, byte);
     step(at, stats, byte)
 }

@@ -9,11 +9,11 @@ use Rattle.wire.specs.declared.Kind.the-variants.{Report, Command}
 use Rattle.report.specs.LayoutCheck.{reportChecks}
 use Rattle.report.specs.Check.{checkedAs, checkedReport}
 use Rattle.report.specs.Report.{reportOf, noReport}
-use Rattle.report.proofs.Answers.{checked-failed}
+use Rattle.report.proofs.ReportChecked.{checked-failed}
 use Rattle.ack.specs.Ack.{checkedAck, noAck}
 use Rattle.ack.specs.declared.Ack.{Ack}
 use Rattle.ack.specs.declared.CheckedAck.the-variants as Checked
-use Rattle.ack.proofs.Reading.{passed-sound, failed-sound}
+use Rattle.ack.proofs.AckChecked.{passed-sound, failed-sound}
 use Rattle.frame.specs.Frame.{startingAt, frameOf, failingFrame, frameIf, decoded}
 use Rattle.frame.specs.declared.FrameKind.the-variants as Is
 use Rattle.frame.specs.declared.Frame.{Frame}

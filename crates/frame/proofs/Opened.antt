@@ -16,6 +16,7 @@ use Rattle.refusal.specs.declared.Check.the-variants.{F1, F2, F3, F4}
 use Rattle.refusal.specs.declared.MaybeCheck.{MaybeCheck}
 use Rattle.refusal.specs.declared.MaybeCheck.the-variants as Maybe
 use Rattle.wire.specs.Equal.{sameBytes}
+use Rattle.wire.proofs.Equality.{same-sound}
 use Rattle.wire.specs.Family.{tail}
 use Rattle.wire.proofs.Families.{header-sound, header-length}
 use Rattle.wire.specs.declared.Kind.{Kind}
@@ -72,6 +73,7 @@ module _ (s : List ℕ) where
     pub announces : family s ≡ Found.Some k
     pub ends : i ≡ 6 + announced s
     pub inside : 6 + announced s ≤ length s
+    pub tailed : drop (6 + announced s) s ≡ tail k
 
   pub opened-data : (k : Kind) (i : ℕ) → envelope s ≡ Data k i → Held k i
   unfolding envelope
@@ -82,11 +84,13 @@ module _ (s : List ℕ) where
       go (Found.Some j) f Maybe.None h r =
           let q : j ≡ k = cc in
           let p : 6 + announced s ≡ i = cc in
+          let all = passes-sound s frameChecks h in
           record {
             passed = h;
             announces = rw q at f;
             ends = omega (arith, p);
-            inside = leb-true (6 + announced s) (length s) (passes-sound s frameChecks h .1 .1 .0);
+            inside = leb-true (6 + announced s) (length s) (all .1 .1 .0);
+            tailed = same-sound _ _ (rw (f, q) at (all .1 .1 .1 .0));
           }
       go (Found.Some j) f (Maybe.Some d) h r = let z : _≡_ {A = ℕ} 0 1 = cc in absurd (omega arith)
       go Found.None f m h r = let z : _≡_ {A = ℕ} 0 1 = cc in absurd (omega arith)

@@ -4,8 +4,10 @@ use wire::FRAMING;
 use wire::Kind;
 use wire::MaybeKind;
 use wire::MaybeU16;
+use wire::bytes_eq;
+use wire::family_of;
 use wire::le16;
-use wire::same;
+use wire::tail_of;
 ghost use mathlib.Core.Path.{_≡_};
 ghost use Rattle.frame.specs.Envelope.{envelope};
 
@@ -27,7 +29,7 @@ impl Envelope {
         if bytes.len() < 4 {
             return Envelope::Failed(Check::F1);
         }
-        let MaybeKind::Some(kind) = Kind::of_header(&bytes[..4]) else {
+        let MaybeKind::Some(kind) = family_of(&bytes[..4]) else {
             return Envelope::Failed(Check::F1);
         };
         let MaybeU16::Some(len) = le16(bytes, 4) else {
@@ -37,8 +39,8 @@ impl Envelope {
         if bytes.len() < end {
             return Envelope::Failed(Check::F3);
         }
-        let tail = kind.tail();
-        if !same(&bytes[end..], &tail) {
+        let tail = tail_of(kind);
+        if !bytes_eq(&bytes[end..], &tail) {
             return Envelope::Failed(Check::F4);
         }
         Envelope::Data(kind, end)

@@ -8,12 +8,14 @@ mod envelope;
 use ack::Ack;
 use ack::CheckedAck;
 use ack::Span;
+use ack::checked_ack;
 pub use envelope::DATA_START;
 pub use envelope::Envelope;
 use refusal::Check;
 use refusal::MaybeCheck;
 use refusal::Outcome;
 use report::Report;
+use report::checked_report;
 use report::no_report;
 use wire::Kind;
 ghost use mathlib.Core.Path.{_≡_};
@@ -64,6 +66,17 @@ fn no_ack() -> Ack
     }
 }
 
+// No frame: every field 0.
+pub fn no_frame() -> Frame
+    ensures empty { λ r. ⌜ r ≡ noFrame ⌝ }
+{
+    Frame {
+        kind: FrameKind::None,
+        report: no_report(),
+        ack: no_ack(),
+    }
+}
+
 impl CheckedFrame {
     // No frame, since the check failed.
     fn failing(check: Check) -> Self
@@ -71,31 +84,14 @@ impl CheckedFrame {
     {
         CheckedFrame {
             failed: MaybeCheck::Some(check),
-            frame: Frame::none(),
+            frame: no_frame(),
         }
     }
 }
 
 impl Frame {
-    // No frame: every field 0.
-    pub fn none() -> Self
-        ensures empty { λ r. ⌜ r ≡ noFrame ⌝ }
-    {
-        Frame {
-            kind: FrameKind::None,
-            report: no_report(),
-            ack: no_ack(),
-        }
-    }
-
-    // Decodes the data of a frame of this family. A payload's span counts in the data.
-    pub fn decode(kind: Kind, data: &[u8]) -> CheckedFrame
-        ensures decoded { λ r. ⌜ r ≡ decoded 4 kind (now («data» .entry)) ⌝ }
-    {
-        Frame::decode_at(kind, data, PAYLOAD_START)
-    }
-
-    // The same, the payload's span beginning at `start`, where the data are a part of the bytes that it counts in.
+    // Decodes the data of a frame of this family. A payload's span begins at `start`, since the data may be a part of
+    // the bytes that it counts in.
     fn decode_at(kind: Kind, data: &[u8], start: usize) -> CheckedFrame
         ensures decoded { λ r. ⌜ r ≡ decoded start kind (now («data» .entry)) ⌝ }
     {
@@ -109,7 +105,7 @@ impl Frame {
     fn of_report(data: &[u8]) -> CheckedFrame
         ensures decoded { λ r. ⌜ r ≡ decoded 4 Family.Report (now («data» .entry)) ⌝ }
     {
-        let read = Report::checked(data);
+        let read = checked_report(data);
         let failed = read.failed;
         match failed {
             MaybeCheck::Some(check) => CheckedFrame::failing(check),
@@ -131,7 +127,7 @@ impl Frame {
     fn of_ack(data: &[u8], start: usize) -> CheckedFrame
         ensures decoded { λ r. ⌜ r ≡ decoded start Family.Command (now («data» .entry)) ⌝ }
     {
-        match Ack::checked(data) {
+        match checked_ack(data) {
             CheckedAck::Failed(check) => CheckedFrame::failing(check),
             CheckedAck::Ok(ack) => {
                 let payload = ack.payload;
@@ -183,4 +179,11 @@ impl Frame {
             frame,
         }
     }
+}
+
+// Decodes the data of a frame of this family, the payload's span counted in the data.
+pub fn decode_data(kind: Kind, data: &[u8]) -> CheckedFrame
+    ensures decoded { λ r. ⌜ r ≡ decoded 4 kind (now («data» .entry)) ⌝ }
+{
+    Frame::decode_at(kind, data, PAYLOAD_START)
 }

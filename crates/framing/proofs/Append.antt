@@ -22,7 +22,7 @@ leftover-cut [] = refl
 leftover-cut (b ∷ p) = append-nil (b ∷ p)
 
 -- A tally counts the finished pieces alone.
-finished-total : {K : Type 0} (C : Counting K) (k : K) (ps : List Piece) → total C k (finished ps) ≡ total C k ps
+pub finished-total : {K : Type 0} (C : Counting K) (k : K) (ps : List Piece) → total C k (finished ps) ≡ total C k ps
 finished-total C k [] = refl
 finished-total C k (stray b ∷ ps) = omega (arith, finished-total C k ps)
 finished-total C k (broken s ∷ ps) = omega (arith, finished-total C k ps)
@@ -45,7 +45,7 @@ module _ (F : Framing) where
     does-cut (does-stray w) = refl
     does-cut (does-break w d) = does-cut d
 
-  from-finished : (p s : List ℕ) → finished (from F p s) ≡ closed F p s
+  pub from-finished : (p s : List ℕ) → finished (from F p s) ≡ closed F p s
   from-finished p [] = leftover-finished p
   from-finished p (c ∷ s) =
       let r = step F p c in

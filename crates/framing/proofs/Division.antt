@@ -1,13 +1,12 @@
 -- What a division's pieces spell and add up to.
 use mathlib.Core.Path.{_≡_, refl, sym, _∙_, ap}
-use mathlib.Core.Logic.{_↔_}
 use mathlib.Core.List.{List, [], _∷_, _++_, append-nil}
 use Prim.Native.Nat.{ℕ, _+_}
 use native.Mathlib.Omega.{arith}
 use lib.ListN.{length, length-append}
 use Rattle.framing.specs.Piece.{Piece, stray, broken, whole, unfinished, bytes, spelled}
 use Rattle.framing.specs.Division.{Division, is-empty, is-stray, is-broken, is-whole, is-unfinished}
-use Rattle.framing.specs.Tally.{lost, framed, waiting, sum}
+use Rattle.framing.specs.Tally.{lost, inFrames, waiting, sum}
 
 pub sum-append : (f : Piece → ℕ) (ps qs : List Piece) → sum f (ps ++ qs) ≡ sum f ps + sum f qs
 sum-append f [] qs = omega arith
@@ -22,26 +21,16 @@ division-spelled (is-whole {s} w d) = ap (λ (l : List ℕ). s ++ l) (division-s
 division-spelled (is-unfinished {s} ne o w) = append-nil s
 
 -- Each byte is lost, or in the unfinished end, or in a whole frame.
-part : (p : Piece) → length (bytes p) ≡ lost p + waiting p + framed p
+part : (p : Piece) → length (bytes p) ≡ lost p + waiting p + inFrames p
 part (stray b) = refl
 part (broken s) = omega arith
 part (whole s) = omega arith
 part (unfinished s) = omega arith
 
-parts : (ps : List Piece) → length (spelled ps) ≡ sum lost ps + sum waiting ps + sum framed ps
+parts : (ps : List Piece) → length (spelled ps) ≡ sum lost ps + sum waiting ps + sum inFrames ps
 parts [] = refl
 parts (p ∷ ps) = omega (arith, length-append (bytes p) (spelled ps), part p, parts ps)
 
 pub division-length : {O W : List ℕ → Type 0} {s : List ℕ} {ps : List Piece} → Division O W s ps
-    → length s ≡ sum lost ps + sum waiting ps + sum framed ps
+    → length s ≡ sum lost ps + sum waiting ps + sum inFrames ps
 division-length {s = s} {ps} d = ap length (sym (division-spelled d)) ∙ parts ps
-
--- A division over strings is one over others, where the same strings are open and the same are whole.
-module _ {O W O′ W′ : List ℕ → Type 0} (opens : (s : List ℕ) → O s ↔ O′ s) (wholes : (s : List ℕ) → W s ↔ W′ s) where
-  pub division-over : {s : List ℕ} {ps : List Piece} → Division O W s ps → Division O′ W′ s ps
-  division-over is-empty = is-empty
-  division-over (is-stray {b} n d) = is-stray (λ x. n (opens (b ∷ []) .1 x)) (division-over d)
-  division-over (is-broken {s} {c} ne o w n d) = is-broken ne (opens s .0 o) (λ x. w (wholes s .1 x))
-      (λ x. n (opens (s ++ (c ∷ [])) .1 x)) (division-over d)
-  division-over (is-whole {s} w d) = is-whole (wholes s .0 w) (division-over d)
-  division-over (is-unfinished {s} ne o w) = is-unfinished ne (opens s .0 o) (λ x. w (wholes s .1 x))

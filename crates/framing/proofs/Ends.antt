@@ -26,7 +26,7 @@ ends-on p {m = m} x = later {p = p} {n = length (bytes p) + m} x refl
 pub ends-out : {ps : List Piece} {n : ℕ} {f : List ℕ} → Ends ps n f → EndsAt ps n f
 ends-out (here {g} {ps} {n} {f} q e) = record {
   before = [];
-  behind = ps;
+  after = ps;
   split = ap (λ (l : List ℕ). whole l ∷ ps) q;
   place = ap length (sym q) ∙ e;
 }
@@ -34,26 +34,26 @@ ends-out (later {p} {ps} {m} {n} {f} x e) =
     let r = ends-out x in
     record {
       before = p ∷ r .before;
-      behind = r .behind;
+      after = r .after;
       split = ap (λ (l : List Piece). p ∷ l) (r .split);
       place = rw append-assoc (omega (arith, length-append (bytes p) (spelled (r .before) ++ f), r .place));
     }
 
-ends-among : (before behind : List Piece) (f : List ℕ)
-    → Ends (before ++ (whole f ∷ behind)) (length (spelled before ++ f)) f
-ends-among [] behind f = here refl refl
-ends-among (p ∷ before) behind f = ends-to (sym (ap length (append-assoc (bytes p) (spelled before) f)
-    ∙ length-append (bytes p) (spelled before ++ f))) (ends-on p (ends-among before behind f))
+ends-among : (before after : List Piece) (f : List ℕ)
+    → Ends (before ++ (whole f ∷ after)) (length (spelled before ++ f)) f
+ends-among [] after f = here refl refl
+ends-among (p ∷ before) after f = ends-to (sym (ap length (append-assoc (bytes p) (spelled before) f)
+    ∙ length-append (bytes p) (spelled before ++ f))) (ends-on p (ends-among before after f))
 
 pub ends-in : {ps : List Piece} {n : ℕ} {f : List ℕ} → EndsAt ps n f → Ends ps n f
-ends-in {ps} {n} {f} r = rw (r .split) (ends-to (r .place) (ends-among (r .before) (r .behind) f))
+ends-in {ps} {n} {f} r = rw (r .split) (ends-to (r .place) (ends-among (r .before) (r .after) f))
 
 -- After other pieces a frame ends that much later.
-pub ends-behind : (qs : List Piece) {ps : List Piece} {n : ℕ} {f : List ℕ} → Ends ps n f
+pub ends-after : (qs : List Piece) {ps : List Piece} {n : ℕ} {f : List ℕ} → Ends ps n f
     → Ends (qs ++ ps) (length (spelled qs) + n) f
-ends-behind [] x = ends-to (omega arith) x
-ends-behind (q ∷ qs) x =
-    ends-to (omega (arith, length-append (bytes q) (spelled qs))) (ends-on q (ends-behind qs x))
+ends-after [] x = ends-to (omega arith) x
+ends-after (q ∷ qs) x =
+    ends-to (omega (arith, length-append (bytes q) (spelled qs))) (ends-on q (ends-after qs x))
 
 -- And one that ends past the first pieces is among the others.
 pub ends-past : (qs : List Piece) {ps : List Piece} {n m : ℕ} {f : List ℕ} → Ends (qs ++ ps) n f

@@ -10,7 +10,7 @@ use Rattle.framing.proofs.Framing.{Framing, Divides}
 use Rattle.framing.specs.Piece.{Piece, broken}
 use Rattle.framing.specs.Division.{EndsAt}
 use Rattle.framing.proofs.Scanner.{Step, step, rest, leftover}
-use Rattle.framing.proofs.Ends.{Ends, here, later, ends-out, ends-in, ends-nil, ends-to, ends-behind}
+use Rattle.framing.proofs.Ends.{Ends, here, later, ends-out, ends-in, ends-nil, ends-to, ends-after}
 use Rattle.framing.proofs.Ends.{ends-past}
 use Rattle.framing.proofs.View.{Does, does-end, does-open, does-stray, does-break, does, step-length}
 use Rattle.framing.proofs.Scanned.{from, then, scanner-complete}
@@ -72,7 +72,7 @@ module _ (F : Framing) where
   shift-one p c v j f h =
       let r = step F p c in (
         (λ x. ends-past (r .closed) x (omega (arith, step-length F p c)) (omega arith)),
-        (λ x. ends-to (omega (arith, step-length F p c)) (ends-behind (r .closed) x)),
+        (λ x. ends-to (omega (arith, step-length F p c)) (ends-after (r .closed) x)),
       )
 
   pub shift : (p u v : List ℕ) (j : ℕ) (f : List ℕ) → 0 < j →

@@ -7,7 +7,7 @@ use mathlib.Core.Bool.{Bool, true, false, _&&_}
 use mathlib.Core.Option.{Option, none, some}
 use Prim.Native.Nat.{ℕ}
 use lib.Dec.{T, eqb}
-use Rattle.framing.proofs.Tests.{Tests}
+use Rattle.framing.proofs.Tests.{Tests, T-and}
 
 abbrev pub agrees : Option ℕ → ℕ → Bool
 agrees none b = true
@@ -24,31 +24,26 @@ fills [] (b ∷ s) = false
 fills (x ∷ xs) [] = false
 fills (x ∷ xs) (b ∷ s) = agrees x b && fills xs s
 
-both-mono : (a b c : Bool) → (T b → T c) → T (a && b) → T (a && c)
-both-mono true b c f h = f h
-both-mono false b c f h = h
-
-both-right : (a b : Bool) → T (a && b) → T b
-both-right true b h = h
-both-right false b h = absurd h
-
 pub begins-prefix : (xs : List (Option ℕ)) (s t : List ℕ) → T (begins xs (s ++ t)) → T (begins xs s)
 begins-prefix xs [] t h = tt
 begins-prefix [] (b ∷ s) t h = h
 begins-prefix (x ∷ xs) (b ∷ s) t h =
-    both-mono (agrees x b) (begins xs (s ++ t)) (begins xs s) (begins-prefix xs s t) h
+    let p = T-and (agrees x b) (begins xs (s ++ t)) .0 h in
+    T-and (agrees x b) (begins xs s) .1 (p .0, begins-prefix xs s t (p .1))
 
 pub fills-begins : (xs : List (Option ℕ)) (s : List ℕ) → T (fills xs s) → T (begins xs s)
 fills-begins xs [] h = tt
 fills-begins [] (b ∷ s) h = h
-fills-begins (x ∷ xs) (b ∷ s) h = both-mono (agrees x b) (fills xs s) (begins xs s) (fills-begins xs s) h
+fills-begins (x ∷ xs) (b ∷ s) h =
+    let p = T-and (agrees x b) (fills xs s) .0 h in
+    T-and (agrees x b) (begins xs s) .1 (p .0, fills-begins xs s (p .1))
 
 pub fills-ends : (xs : List (Option ℕ)) (s : List ℕ) (b : ℕ) → T (fills xs s) → T (begins xs (s ++ (b ∷ []))) → ⊥
 fills-ends [] [] b h o = o
 fills-ends [] (c ∷ s) b h o = h
 fills-ends (x ∷ xs) [] b h o = h
-fills-ends (x ∷ xs) (c ∷ s) b h o = fills-ends xs s b (both-right (agrees x c) (fills xs s) h)
-    (both-right (agrees x c) (begins xs (s ++ (b ∷ []))) o)
+fills-ends (x ∷ xs) (c ∷ s) b h o =
+    fills-ends xs s b (T-and (agrees x c) (fills xs s) .0 h .1) (T-and (agrees x c) (begins xs (s ++ (b ∷ []))) .0 o .1)
 
 abbrev pub fixed : Option ℕ → List (Option ℕ) → Tests
 fixed x xs = record {

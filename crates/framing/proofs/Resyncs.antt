@@ -11,7 +11,7 @@ use Rattle.framing.specs.Division.{is-empty, is-stray, is-broken, is-who
 use Rattle.framing.specs.Tally.{resynced, sum}
 use Rattle.framing.proofs.Scanned.{division-unique}
 
-filled : (s : List ℕ) → s ≢ [] → 0 < length s
+pub filled : (s : List ℕ) → s ≢ [] → 0 < length s
 filled [] ne = absurd (ne refl)
 filled (b ∷ s) ne = omega arith
 

@@ -113,9 +113,5 @@ module _ (F : Framing) where
   pub from-is : (p s : List ℕ) → from p s ≡ closed F p s ++ leftover (rest F p s)
   from-is p s = ap (λ (l : List ℕ). from p l) (sym (append-nil s)) ∙ from-append p s []
 
-  -- From any pending string, what follows divides as the two together do.
-  pub division-behind : (p s : List ℕ) → Waits F p → Divides F (p ++ s) (closed F p s ++ leftover (rest F p s))
-  division-behind p s w = rw (← from-is p s) (scanner-sound p s w)
-
   pub division-exists : (s : List ℕ) → Divides F s (pieces F s)
-  division-exists s = division-behind [] s (nothing-waits F)
+  division-exists s = rw (← from-is [] s) (scanner-sound [] s (nothing-waits F))

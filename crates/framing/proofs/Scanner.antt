@@ -21,8 +21,8 @@ pub record Step : Type 0 where
 abbrev pub ends : List ℕ → Step
 ends s = record { closed = whole s ∷ []; ended = some s; pending = [] }
 
-abbrev pub opens : List ℕ → Step
-opens s = record { closed = []; ended = none; pending = s }
+abbrev pub leavesOpen : List ℕ → Step
+leavesOpen s = record { closed = []; ended = none; pending = s }
 
 abbrev pub strays : ℕ → Step
 strays c = record { closed = stray c ∷ []; ended = none; pending = [] }
@@ -33,7 +33,7 @@ breaks s r = record { closed = broken s ∷ r .closed; ended = r .ended; pending
 -- The string s, longer by its last byte, is a frame, or waits for more, or else.
 abbrev pub grown : {W O : Type 0} → Dec W → Dec O → List ℕ → Step → Step
 grown (yes w) o s else = ends s
-grown (no w) (yes o) s else = opens s
+grown (no w) (yes o) s else = leavesOpen s
 grown (no w) (no o) s else = else
 
 module _ (F : Framing) where

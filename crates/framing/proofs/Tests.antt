@@ -1,10 +1,10 @@
--- Framings that are given by tests. The claims speak of these: a contract can hold a statement about every test, and
--- none about every framing, since predicates are too large for it. The
--- link's own framing is given by tests (crate `stream`).
+-- Framings that are given by tests, and what two tests say together.
 --   Tests        a test for open strings and one for whole frames, with the laws of a framing
 --   framingOf X  the framing whose strings pass the tests X
+use mathlib.Core.Path.{_≡_, refl}
+use mathlib.Core.Logic.{_↔_}
 use mathlib.Core.List.{List}
-use mathlib.Core.Bool.{Bool, true, false}
+use mathlib.Core.Bool.{Bool, true, false, _&&_, false≢true}
 use Prim.Native.Nat.{ℕ}
 use lib.Dec.{T}
 use Rattle.framing.proofs.Framing.{Laws, Framing}
@@ -13,6 +13,11 @@ use Rattle.framing.proofs.Framing.{Laws, Framing}
 abbrev pub T? : (b : Bool) → Dec (T b)
 T? true = yes tt
 T? false = no (λ x. x)
+
+-- Two tests pass together where the first holds and the second passes.
+pub T-and : (a b : Bool) → T (a && b) ↔ (a ≡ true) × T b
+T-and true b = (λ h. (refl, h), λ p. p .1)
+T-and false b = (λ h. absurd h, λ p. absurd (false≢true (p .0)))
 
 pub record Tests : Type 0 where
   pub opens : List ℕ → Bool

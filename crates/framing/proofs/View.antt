@@ -6,7 +6,22 @@ use native.Mathlib.Omega.{arith}
 use lib.ListN.{length, length-append}
 use Rattle.framing.proofs.Framing.{Framing, Waits}
 use Rattle.framing.specs.Piece.{spelled}
-use Rattle.framing.proofs.Scanner.{Step, ends, opens, strays, breaks, grown, start, over, step, rest}
+use Rattle.framing.proofs.Scanner.{Step, ends, leavesOpen, strays, breaks, grown, start, over, step, rest}
+
+module _ {W O : Type 0} where
+  grown-whole : (d : Dec W) (e : Dec O) (s : List ℕ) (r : Step) → W → grown d e s r ≡ ends s
+  grown-whole (yes w) e s r x = refl
+  grown-whole (no n) e s r x = absurd (n x)
+
+  grown-on : (d : Dec W) (e : Dec O) (s : List ℕ) (r : Step) → ¬ W → O → grown d e s r ≡ leavesOpen s
+  grown-on (yes w) e s r n x = absurd (n w)
+  grown-on (no m) (yes o) s r n x = refl
+  grown-on (no m) (no o) s r n x = absurd (o x)
+
+  grown-over : (d : Dec W) (e : Dec O) (s : List ℕ) (r : Step) → ¬ W → ¬ O → grown d e s r ≡ r
+  grown-over (yes w) e s r n x = absurd (n w)
+  grown-over (no m) (yes o) s r n x = absurd (x o)
+  grown-over (no m) (no o) s r n x = refl
 
 module _ (F : Framing) where
   pub nothing-waits : Waits F []
@@ -15,60 +30,37 @@ module _ (F : Framing) where
   -- The byte c after the open string p did r, and why.
   pub data Does : List ℕ → ℕ → Step → Type 0 where
     does-end : {p : List ℕ} {c : ℕ} → F .Whole (p ++ (c ∷ [])) → Does p c (ends (p ++ (c ∷ [])))
-    does-open : {p : List ℕ} {c : ℕ} → Waits F (p ++ (c ∷ [])) → Does p c (opens (p ++ (c ∷ [])))
+    does-open : {p : List ℕ} {c : ℕ} → Waits F (p ++ (c ∷ [])) → Does p c (leavesOpen (p ++ (c ∷ [])))
     does-stray : {c : ℕ} → ¬ F .Open (c ∷ []) → Does [] c (strays c)
     does-break : {b : ℕ} {p : List ℕ} {c : ℕ} {r : Step} → ¬ F .Open (b ∷ p ++ (c ∷ [])) → Does [] c r
         → Does (b ∷ p) c (breaks (b ∷ p) r)
 
-  does-start : (c : ℕ) → Does [] c (start F c)
-  does-start c = go (F .whole? (c ∷ [])) (F .open? (c ∷ []))
-    where
-      go : (d : Dec (F .Whole (c ∷ []))) (e : Dec (F .Open (c ∷ []))) → Does [] c (grown d e (c ∷ []) (strays c))
-      go (yes w) e = does-end w
-      go (no n) (yes o) = does-open (o, n)
-      go (no n) (no o) = does-stray o
+  does-grown : (p : List ℕ) (c : ℕ) (r : Step) (d : Dec (F .Whole (p ++ (c ∷ [])))) (e : Dec (F .Open (p ++ (c ∷ []))))
+      → (¬ F .Open (p ++ (c ∷ [])) → Does p c r) → Does p c (grown d e (p ++ (c ∷ [])) r)
+  does-grown p c r (yes w) e h = does-end {p = p} w
+  does-grown p c r (no n) (yes o) h = does-open {p = p} (o, n)
+  does-grown p c r (no n) (no o) h = h o
 
-  does-on : (b : ℕ) (p : List ℕ) (c : ℕ) → Does (b ∷ p) c (step F (b ∷ p) c)
-  does-on b p c = go (F .whole? (b ∷ p ++ (c ∷ []))) (F .open? (b ∷ p ++ (c ∷ [])))
-    where
-      go : (d : Dec (F .Whole (b ∷ p ++ (c ∷ [])))) (e : Dec (F .Open (b ∷ p ++ (c ∷ []))))
-          → Does (b ∷ p) c (grown d e (b ∷ p ++ (c ∷ [])) (breaks (b ∷ p) (start F c)))
-      go (yes w) e = does-end {p = b ∷ p} w
-      go (no n) (yes o) = does-open {p = b ∷ p} (o, n)
-      go (no n) (no o) = does-break o (does-start c)
+  does-start : (c : ℕ) → Does [] c (start F c)
+  does-start c = does-grown [] c (strays c) (F .whole? (c ∷ [])) (F .open? (c ∷ [])) does-stray
 
   -- Each byte does one of the four.
   pub does : (p : List ℕ) (c : ℕ) → Does p c (step F p c)
   does [] c = does-start c
-  does (b ∷ p) c = does-on b p c
+  does (b ∷ p) c = does-grown (b ∷ p) c (breaks (b ∷ p) (start F c)) (F .whole? (b ∷ p ++ (c ∷ [])))
+      (F .open? (b ∷ p ++ (c ∷ []))) (λ o. does-break o (does-start c))
 
   -- Which one, where it is known what the longer string is.
-  does-whole : {p : List ℕ} {c : ℕ} {r : Step} → Does p c r → F .Whole (p ++ (c ∷ [])) → r ≡ ends (p ++ (c ∷ []))
-  does-whole (does-end x) w = refl
-  does-whole (does-open x) w = absurd (x .1 w)
-  does-whole (does-stray x) w = absurd (x (F .laws .whole-open _ w))
-  does-whole (does-break x d) w = absurd (x (F .laws .whole-open _ w))
-
-  does-wait : {p : List ℕ} {c : ℕ} {r : Step} → Does p c r → Waits F (p ++ (c ∷ [])) → r ≡ opens (p ++ (c ∷ []))
-  does-wait (does-end x) w = absurd (w .1 x)
-  does-wait (does-open x) w = refl
-  does-wait (does-stray x) w = absurd (x (w .0))
-  does-wait (does-break x d) w = absurd (x (w .0))
-
   pub step-whole : (p : List ℕ) (c : ℕ) → F .Whole (p ++ (c ∷ [])) → step F p c ≡ ends (p ++ (c ∷ []))
-  step-whole p c w = does-whole (does p c) w
+  step-whole p c w = grown-whole (F .whole? (p ++ (c ∷ []))) (F .open? (p ++ (c ∷ []))) (p ++ (c ∷ [])) (over F p c) w
 
-  pub step-on : (p : List ℕ) (c : ℕ) → Waits F (p ++ (c ∷ [])) → step F p c ≡ opens (p ++ (c ∷ []))
-  step-on p c w = does-wait (does p c) w
+  pub step-on : (p : List ℕ) (c : ℕ) → Waits F (p ++ (c ∷ [])) → step F p c ≡ leavesOpen (p ++ (c ∷ []))
+  step-on p c w = grown-on (F .whole? (p ++ (c ∷ []))) (F .open? (p ++ (c ∷ []))) (p ++ (c ∷ [])) (over F p c) (w .1)
+      (w .0)
 
   pub step-over : (p : List ℕ) (c : ℕ) → ¬ F .Open (p ++ (c ∷ [])) → step F p c ≡ over F p c
-  step-over p c w = go (F .whole? (p ++ (c ∷ []))) (F .open? (p ++ (c ∷ [])))
-    where
-      go : (d : Dec (F .Whole (p ++ (c ∷ [])))) (e : Dec (F .Open (p ++ (c ∷ []))))
-          → grown d e (p ++ (c ∷ [])) (over F p c) ≡ over F p c
-      go (yes x) e = absurd (w (F .laws .whole-open (p ++ (c ∷ [])) x))
-      go (no n) (yes o) = absurd (w o)
-      go (no n) (no o) = refl
+  step-over p c n = grown-over (F .whole? (p ++ (c ∷ []))) (F .open? (p ++ (c ∷ []))) (p ++ (c ∷ [])) (over F p c)
+      (λ w. n (F .laws .whole-open _ w)) n
 
   -- What waits after a byte is open and not whole, and no byte is lost.
   does-waits : {p : List ℕ} {c : ℕ} {r : Step} → Does p c r → Waits F (r .pending)

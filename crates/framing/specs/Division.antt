@@ -43,8 +43,8 @@ pub record Divided (Open Whole : List ℕ → Type 0) (s : List ℕ) : Type 0 wh
 
 pub record EndsAt (ps : List Piece) (n : ℕ) (f : List ℕ) : Type 0 where
   pub before : List Piece
-  pub behind : List Piece
-  pub split : ps ≡ before ++ (whole f ∷ behind)
+  pub after : List Piece
+  pub split : ps ≡ before ++ (whole f ∷ after)
   pub place : length (spelled before ++ f) ≡ n
 
 abbrev pub finished : List Piece → List Piece

@@ -1,12 +1,12 @@
 -- What a division adds up to, for counters of any kind.
---   sum f ps        the sum of the number f over the pieces ps
---   resynced        1 for a broken start: 01's resyncs
---   lost            the bytes of a piece that is in no frame, stray or a broken start: 01's dropped
---   framed          the bytes of a whole frame
---   waiting         the bytes of an unfinished end
---   passed test     1 for a whole frame that passes the test: 01's frames and malformed
+--   sum f ps      the sum of the number f over the pieces ps
+--   resynced      1 for a broken start: 01's resyncs
+--   lost          the bytes of a piece that is in no frame, stray or a broken start: 01's dropped
+--   inFrames      the bytes of a whole frame
+--   waiting       the bytes of an unfinished end
+--   passed test   1 for a whole frame that passes the test: 01's frames and malformed
 use mathlib.Core.List.{List, [], _∷_}
-use mathlib.Core.Bool.{Bool, true, false}
+use mathlib.Core.Bool.{Bool, cond}
 use Prim.Native.Nat.{ℕ, _+_}
 use lib.ListN.{length}
 use Rattle.framing.specs.Piece.{Piece, stray, broken, whole, unfinished}
@@ -27,11 +27,11 @@ lost (broken s) = length s
 lost (whole s) = 0
 lost (unfinished s) = 0
 
-abbrev pub framed : Piece → ℕ
-framed (stray b) = 0
-framed (broken s) = 0
-framed (whole s) = length s
-framed (unfinished s) = 0
+abbrev pub inFrames : Piece → ℕ
+inFrames (stray b) = 0
+inFrames (broken s) = 0
+inFrames (whole s) = length s
+inFrames (unfinished s) = 0
 
 abbrev pub waiting : Piece → ℕ
 waiting (stray b) = 0
@@ -39,12 +39,8 @@ waiting (broken s) = 0
 waiting (whole s) = 0
 waiting (unfinished s) = length s
 
-abbrev pub one-if : Bool → ℕ
-one-if true = 1
-one-if false = 0
-
 abbrev pub passed : (List ℕ → Bool) → Piece → ℕ
 passed test (stray b) = 0
 passed test (broken s) = 0
-passed test (whole s) = one-if (test s)
+passed test (whole s) = cond (test s) 1 0
 passed test (unfinished s) = 0

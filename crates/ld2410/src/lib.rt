@@ -8,6 +8,7 @@ pub use wire::Kind;
 pub use wire::MAX_DATA;
 pub use wire::MAX_EXTRA;
 pub use wire::MAX_FRAME;
+pub use wire::MaybeKind;
 pub use wire::word;
 
 // Refusals.

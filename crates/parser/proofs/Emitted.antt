@@ -1,51 +1,55 @@
 -- What is emitted where a frame ended, and where none did: the answer that the frame gives, and the counters.
 use mathlib.Core.Path.{_≡_, refl, sym, ap, _∙_}
 use mathlib.Core.List.{List, _++_}
-use mathlib.Core.Bool.{Bool, true, false, not}
+use mathlib.Core.Bool.{Bool, true, false, not, cond}
 use mathlib.Core.Option.{Option, none, some}
 use Prim.Native.Nat.{ℕ, _≤_, _<_}
 use native.Mathlib.Omega.{arith}
 use lib.ListN.{length, take, drop, take-append-drop}
 use lib.Seq.{length-take-le}
 use Rattle.wire.specs.Number.{leBytes}
-use Rattle.wire.specs.Counter.{bumped}
+use Rattle.wire.specs.Counter.{counterMax, bumped}
 use Rattle.wire.proofs.Counters.{bumped-nil}
 use Rattle.wire.specs.Family.{header, tail, framed}
 use Rattle.wire.specs.declared.Kind.{Kind}
 use Rattle.frame.specs.Frame.{decoded}
 use Rattle.framing.proofs.Framing.{Framing}
-use Rattle.framing.specs.Tally.{sum, one-if, passed}
+use Rattle.framing.specs.Tally.{sum, passed}
 use Rattle.framing.proofs.Scanner as Scanner
 use Rattle.framing.proofs.View.{Does, does-end, does-open, does-stray, does-break, does}
 use Rattle.engine.proofs.Lawful.{answerAt}
-use Rattle.stream.specs.Deliver.{holds, decodes, delivered, frames, resyncs, dropped, malformed}
+use Rattle.stream.specs.Deliver.{holds, decodes, delivered, Counter, frames, resyncs, dropped, malformed}
 use Rattle.stream.proofs.Decoding.{decoding}
 use Rattle.stream.proofs.Delivered.{decodes-framed, delivered-framed, decoded-failed}
 use Rattle.scan.specs.Start.{counted}
 use Rattle.feed.specs.Moved.{emitted}
 use Rattle.parser.specs.Feed.{put}
-use Rattle.parser.specs.Engine.{answerOf}
+use Rattle.parser.specs.Engine.{withPayload, counterIn}
 use Rattle.scan.specs.declared.Scan.{Scan}
 use Rattle.scan.specs.declared.stats.Stats.{Stats}
 use Rattle.scan.specs.declared.stats.Ended.{Ended}
 use Rattle.scan.specs.declared.stats.Ended.the-variants.{Frame, Nothing}
 use Rattle.step.proofs.Follow.{Capped, endedAs, Fits}
 
--- Whole frames that pass a test, among the pieces that a byte closed: the one that it ended, if any.
-abbrev pub endedCount : (List ℕ → Bool) → Option (List ℕ) → ℕ
-endedCount test (some f) = one-if (test f)
-endedCount test none = 0
+-- What is counted of the frame that a byte ended, if any: of the pieces that it closed, no other is whole.
+abbrev pub endedCount : (List ℕ → ℕ) → Option (List ℕ) → ℕ
+endedCount count (some f) = count f
+endedCount count none = 0
+
+pub ended-nil : (o : Option (List ℕ)) → endedCount (λ f. 0) o ≡ 0
+ended-nil (some f) = refl
+ended-nil none = refl
 
 module _ (F : Framing) (test : List ℕ → Bool) where
   does-passed : {p : List ℕ} {c : ℕ} {r : Scanner.Step} → Does F p c r
-      → sum (passed test) (r .closed) ≡ endedCount test (r .ended)
+      → sum (passed test) (r .closed) ≡ endedCount (λ f. cond (test f) 1 0) (r .ended)
   does-passed (does-end {p} {c} w) = omega arith
   does-passed (does-open w) = refl
   does-passed (does-stray w) = refl
   does-passed (does-break w d) = omega (arith, does-passed d)
 
   pub step-passed : (p : List ℕ) (c : ℕ)
-      → sum (passed test) (Scanner.step F p c .closed) ≡ endedCount test (Scanner.step F p c .ended)
+      → sum (passed test) (Scanner.step F p c .closed) ≡ endedCount (λ f. cond (test f) 1 0) (Scanner.step F p c .ended)
   step-passed p c = does-passed (does F p c)
 
 -- What is emitted where a frame ended, and where none did.
@@ -58,31 +62,32 @@ pub emitted-scan : (e : Ended) (c : Scan) (st : Stats) (buf : List ℕ) → emit
 emitted-scan (Frame k n) c st buf = refl
 emitted-scan Nothing c st buf = refl
 
-counted-resyncs : (x : Bool) (st : Stats) → counted x st .resyncs ≡ st .resyncs
-counted-resyncs true st = refl
-counted-resyncs false st = refl
+-- What a whole frame adds to a counter, by whether it decodes.
+abbrev pub addedBy : Counter → Bool → ℕ
+addedBy frames x = cond x 1 0
+addedBy resyncs x = 0
+addedBy dropped x = 0
+addedBy malformed x = cond (not x) 1 0
 
-counted-dropped : (x : Bool) (st : Stats) → counted x st .dropped ≡ st .dropped
-counted-dropped true st = refl
-counted-dropped false st = refl
+module _ (st : Stats) (cap : Capped st) where
+  pub capped-at : (k : Counter) → counterIn k st ≤ counterMax
+  capped-at frames = cap .frames
+  capped-at resyncs = cap .resyncs
+  capped-at dropped = cap .dropped
+  capped-at malformed = cap .malformed
 
-counted-frames : (x : Bool) (st : Stats) → Capped st → counted x st .frames ≡ bumped (st .frames) (one-if x)
-counted-frames true st cap = refl
-counted-frames false st cap = sym (bumped-nil (st .frames) (cap .frames))
+  none-more : (k : Counter) → counterIn k st ≡ bumped (counterIn k st) 0
+  none-more k = sym (bumped-nil (counterIn k st) (capped-at k))
 
-counted-malformed : (x : Bool) (st : Stats) → Capped st
-    → counted x st .malformed ≡ bumped (st .malformed) (one-if (not x))
-counted-malformed true st cap = sym (bumped-nil (st .malformed) (cap .malformed))
-counted-malformed false st cap = refl
-
-module _ (c : Scan) (st : Stats) (buf : List ℕ) where
-  pub emitted-resyncs : (e : Ended) → emitted e c st buf .stats .resyncs ≡ st .resyncs
-  emitted-resyncs (Frame k n) = counted-resyncs (holds (decoded 4 k (take n buf) .failed)) st
-  emitted-resyncs Nothing = refl
-
-  pub emitted-dropped : (e : Ended) → emitted e c st buf .stats .dropped ≡ st .dropped
-  emitted-dropped (Frame k n) = counted-dropped (holds (decoded 4 k (take n buf) .failed)) st
-  emitted-dropped Nothing = refl
+  counted-by : (x : Bool) (k : Counter) → counterIn k (counted x st) ≡ bumped (counterIn k st) (addedBy k x)
+  counted-by true frames = refl
+  counted-by true resyncs = none-more resyncs
+  counted-by true dropped = none-more dropped
+  counted-by true malformed = none-more malformed
+  counted-by false frames = none-more frames
+  counted-by false resyncs = none-more resyncs
+  counted-by false dropped = none-more dropped
+  counted-by false malformed = refl
 
 module _ (limit : ℕ) (small : limit < 65536) (buf : List ℕ) (room : limit ≤ length buf)
     (c : Scan) (st : Stats) (cap : Capped st) where
@@ -96,27 +101,21 @@ module _ (limit : ℕ) (small : limit < 65536) (buf : List ℕ) (room : limit �
     decodes-here = rw (framed-here k n buf (omega arith), decoded-failed 4 k (take n buf))
         (decodes-framed k (take n buf) data-small)
 
-    delivered-here : answerOf (decoded 4 k (take n buf) .frame) (put buf c st)
+    delivered-here : withPayload (decoded 4 k (take n buf) .frame) (put buf c st)
         ≡ delivered (header k ++ (leBytes 2 n ++ (take n buf ++ tail k)))
     delivered-here =
         rw (framed-here k n buf (omega arith))
         (sym (delivered-framed (take n buf) (drop n buf) k data-small
-        ∙ ap (λ s. answerOf (decoded 4 k (take n buf) .frame) (put s c st)) (take-append-drop n buf)))
+        ∙ ap (λ s. withPayload (decoded 4 k (take n buf) .frame) (put s c st)) (take-append-drop n buf)))
 
   pub emitted-answer : (e : Ended) → Fits limit e
-      → answerOf (emitted e c st buf .answer) (put buf c st) ≡ answerAt decoding (endedAs e buf)
+      → withPayload (emitted e c st buf .answer) (put buf c st) ≡ answerAt decoding (endedAs e buf)
   emitted-answer (Frame k n) fits = delivered-here k n fits
   emitted-answer Nothing fits = refl
 
-  pub emitted-frames : (e : Ended) → Fits limit e
-      → emitted e c st buf .stats .frames ≡ bumped (st .frames) (endedCount decodes (endedAs e buf))
-  emitted-frames (Frame k n) fits =
-      rw (decodes-here k n fits) (counted-frames (holds (decoded 4 k (take n buf) .failed)) st cap)
-  emitted-frames Nothing fits = sym (bumped-nil (st .frames) (cap .frames))
-
-  pub emitted-malformed : (e : Ended) → Fits limit e
-      → emitted e c st buf .stats .malformed
-      ≡ bumped (st .malformed) (endedCount (λ f. not (decodes f)) (endedAs e buf))
-  emitted-malformed (Frame k n) fits =
-      rw (decodes-here k n fits) (counted-malformed (holds (decoded 4 k (take n buf) .failed)) st cap)
-  emitted-malformed Nothing fits = sym (bumped-nil (st .malformed) (cap .malformed))
+  pub emitted-counter : (e : Ended) → Fits limit e → (k : Counter)
+      → counterIn k (emitted e c st buf .stats)
+      ≡ bumped (counterIn k st) (endedCount (λ f. addedBy k (decodes f)) (endedAs e buf))
+  emitted-counter (Frame kind n) fits k =
+      rw (decodes-here kind n fits) (counted-by st cap (holds (decoded 4 kind (take n buf) .failed)) k)
+  emitted-counter Nothing fits k = none-more st cap k

@@ -10,25 +10,21 @@ pub mod Engines
 pub mod Demand
 -- A parser in memory.
 pub mod Memory
+-- What a parser's type says of it, and what follows of demand 3.
+pub mod Known
 -- Its buffer, lent for a call.
 pub mod Field
--- The parameter that a feed takes beside the parser.
-pub mod Extra
--- What a feed answers.
-pub mod Answers
--- The contracts of feeds and of resets.
-pub mod Contracts
--- From a function's code to its routine.
-pub mod Carried
--- A feed of a parser that is lent: its call, and its walk.
+-- Facts of a contract, shown of nothing.
+pub mod Facts
+-- From a walk to a routine.
+pub mod Routines
+-- A feed of a parser that is lent: what it is made of, and its contract.
+pub mod Feeds
+-- Its call and its exit, and its walk.
 pub mod LentCall
 pub mod LentFeed
--- A reset of a parser that is lent.
-pub mod LentReset
 -- A parser in a local, lent for a call.
 pub mod Local
--- A feed by value that lends a local: its call, and its walk.
-pub mod LocalCall
+-- A feed by value, which lends it: what it is made of, and its walk.
+pub mod Hands
 pub mod LocalFeed
--- A reset by value that lends a local.
-pub mod LocalReset

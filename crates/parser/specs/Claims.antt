@@ -9,18 +9,18 @@
 --   Accounted x       from x, without a reset and while `dropped` is not full, no byte is unaccounted for
 --   ResetFirst x y    x, with a field out of range, is fed as y is, which is what a reset of x leaves
 -- What is fulfilled stands in the crate `engine` (Fulfilled), what is open, whole, decodes and is delivered in the
--- crate `stream` (Open, Deliver), what is out of range in the crate `scan` (Stands). The largest length and the most of
--- a counter are fixed in the crates `limit` and `number`.
+-- crate `stream` (Open, Deliver), what is out of range in the crate `scan` (Stands). The largest length is fixed in the
+-- crate `stream` (Length), the most of a counter in the crate `wire` (Counter).
 use mathlib.Core.Path.{_≡_}
 use mathlib.Core.List.{List, [], _∷_, _++_}
 use Prim.Native.Nat.{ℕ, _+_, _<_, min}
 use lib.ListN.{length}
 use Rattle.wire.specs.Counter.{counterMax}
+use Rattle.wire.specs.Bytes.{Every}
 use Rattle.stream.specs.Length.{linkLimit}
 use Rattle.framing.specs.Piece.{Piece}
 use Rattle.framing.specs.Division.{Division}
-use Rattle.framing.specs.Tally.{sum, framed}
-use Rattle.engine.specs.Bytes.{Every}
+use Rattle.framing.specs.Tally.{sum, inFrames}
 use Rattle.engine.specs.Calls.{Call, ByteCall, Goes, Did, sliced, takenBy}
 use Rattle.engine.specs.Engine.{Engine, history, final}
 use Rattle.engine.specs.Fulfilled.{deliveries, Fulfilled, Same}
@@ -63,8 +63,8 @@ pub record FromAny (x : Parser) : Type 0 where
   pub frames : (calls : List Call) → Every ByteCall calls → left x calls .stats .frames
       ≡ min (x .stats .frames + length (deliveries (ld2410 linkLimit .delivers) (did x calls))) counterMax
   -- "an empty slice takes none", and delivers nothing
-  pub empty : (calls : List Call) → Every ByteCall calls → (before behind : List (Did Answer)) (k : ℕ) (a : Answer)
-      → did x calls ≡ before ++ (sliced [] k a ∷ behind) → (k ≡ 0) × (a ≡ nothing)
+  pub empty : (calls : List Call) → Every ByteCall calls → (before after : List (Did Answer)) (k : ℕ) (a : Answer)
+      → did x calls ≡ before ++ (sliced [] k a ∷ after) → (k ≡ 0) × (a ≡ nothing)
   -- a parser y that stands for the same as what calls left, and has its counters, goes on as that
   pub resumed : (calls more : List Call) → Every ByteCall calls → Every ByteCall more
       → (y : Parser) → Demand3 (pendingBy linkLimit y) y → pendingBy linkLimit y ≡ pendingBy linkLimit (left x calls)
@@ -77,7 +77,7 @@ Accounted x = (calls : List Call) → Every ByteCall calls → Every Goes calls
     → left x calls .stats .dropped < counterMax
     → (ps : List Piece) → Division (Open linkLimit) (Whole linkLimit) (takenBy (did x calls)) ps
     → length (takenBy (did x calls))
-    ≡ left x calls .stats .dropped + unfinishedOf linkLimit (left x calls) + sum framed ps
+    ≡ left x calls .stats .dropped + unfinishedOf linkLimit (left x calls) + sum inFrames ps
 
 -- "A parser built by hand with fields out of range .. is handled as if reset came first."
 pub record ResetFirst (x y : Parser) : Type 0 where

@@ -1,6 +1,6 @@
 -- The parser as an engine of the theory of the stream, over the largest length `limit`.
---   answerOf x p     an answer, with the bytes that stand in the parser left where it says that its payload is
---   counterIn k st   the counter k of the counters st
+--   withPayload x p   an answer, with the bytes that stand in the parser left where it says that its payload is
+--   counterIn k st    the counter k of the counters st
 --   pendingBy limit p the bytes that the parser stands for: none where a field is out of range
 --   engine limit      the calls, the counters, and the pending string
 use mathlib.Core.List.{List}
@@ -9,14 +9,14 @@ use Rattle.wire.specs.Counter.{counterMax}
 use Rattle.frame.specs.declared.Frame.{Frame}
 use Rattle.engine.specs.Engine.{Engine}
 use Rattle.stream.specs.Deliver.{Answer, payloadOf, Counter, frames, resyncs, dropped, malformed}
-use Rattle.scan.specs.Scan.{settled}
+use Rattle.scan.specs.Scan.{orReset}
 use Rattle.scan.specs.Stands.{pendingOf}
 use Rattle.parser.specs.Feed.{feedOf, feedSliceOf, resetOf, unfinishedOf}
 use Rattle.scan.specs.declared.stats.Stats.{Stats}
 use Rattle.parser.specs.declared.Parser.{Parser}
 
-abbrev pub answerOf : Frame → Parser → Answer
-answerOf x p = (x, payloadOf x (p .buf))
+abbrev pub withPayload : Frame → Parser → Answer
+withPayload x p = (x, payloadOf x (p .buf))
 
 abbrev pub counterIn : Counter → Stats → ℕ
 counterIn frames st = st .frames
@@ -25,15 +25,15 @@ counterIn dropped st = st .dropped
 counterIn malformed st = st .malformed
 
 abbrev pub pendingBy : ℕ → Parser → List ℕ
-pendingBy limit p = pendingOf (settled limit (p .scan)) (p .buf)
+pendingBy limit p = pendingOf (orReset limit (p .scan)) (p .buf)
 
 abbrev pub engine : ℕ → Engine Parser Answer Counter
 engine limit = record {
-  feed = λ p b. (feedOf limit p b .parser, answerOf (feedOf limit p b .answer) (feedOf limit p b .parser));
+  feed = λ p b. (feedOf limit p b .parser, withPayload (feedOf limit p b .answer) (feedOf limit p b .parser));
   slice = λ p bs. record {
     state = feedSliceOf limit p bs .parser;
     told = feedSliceOf limit p bs .answer .count;
-    answer = answerOf (feedSliceOf limit p bs .answer .frame) (feedSliceOf limit p bs .parser);
+    answer = withPayload (feedSliceOf limit p bs .answer .frame) (feedSliceOf limit p bs .parser);
   };
   reset = resetOf;
   counter = λ k p. counterIn k (p .stats);

@@ -4,7 +4,7 @@ use feed::Taken;
 use feed::feed_at;
 use feed::feed_slice_at;
 use frame::Frame;
-use scan::Scan;
+use scan::hunting;
 ghost use mathlib.Core.Path.{_≡_};
 ghost use mathlib.Core.List.{[]};
 ghost use Rattle.stream.specs.Length.{linkLimit};
@@ -47,6 +47,6 @@ impl Parser {
         ensures determined { λ _. ⌜ Determined [] (now (self .exit)) ⌝ }
         ensures first { λ _. ⌜ ResetFirst (now (self .entry)) (now (self .exit)) ⌝ }
     {
-        self.scan = Scan::hunting();
+        self.scan = hunting();
     }
 }

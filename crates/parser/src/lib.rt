@@ -6,6 +6,7 @@ use feed::Taken;
 use frame::Frame;
 use scan::Scan;
 use scan::Stats;
+use scan::hunting;
 use scan::unfinished;
 use wire::MAX_FRAME;
 
@@ -47,7 +48,7 @@ impl Parser {
     {
         Parser {
             buf: [0; MAX_FRAME],
-            scan: Scan::hunting(),
+            scan: hunting(),
             stats: Stats {
                 frames: 0,
                 resyncs: 0,

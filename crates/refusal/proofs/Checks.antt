@@ -30,17 +30,17 @@ module _ (s : List ℕ) where
   pub fails-complete : (cs : Checks) (c : Check) → FailsFirst cs c s → firstFailed cs s ≡ Maybe.Some c
   fails-complete cs c h = rw (h .split) (go (h .before) (h .held))
     where
-      go : (before : Checks) → Passes before s → firstFailed (before ++ ((c, h .test) ∷ h .behind)) s ≡ Maybe.Some c
+      go : (before : Checks) → Passes before s → firstFailed (before ++ ((c, h .test) ∷ h .after)) s ≡ Maybe.Some c
       go [] p = rw (h .failed)
       go (x ∷ cs) p = rw (p .0) (go cs (p .1))
 
   -- One more check that holds, in front.
-  behind-held : (x : Check × (List ℕ → Bool)) (cs : Checks) (c : Check) → x .1 s ≡ true → FailsFirst cs c s
+  after-held : (x : Check × (List ℕ → Bool)) (cs : Checks) (c : Check) → x .1 s ≡ true → FailsFirst cs c s
       → FailsFirst (x ∷ cs) c s
-  behind-held x cs c e h = record {
+  after-held x cs c e h = record {
     before = x ∷ h .before;
     test = h .test;
-    behind = h .behind;
+    after = h .after;
     split = ap (λ l. x ∷ l) (h .split);
     held = (e, h .held);
     failed = h .failed;
@@ -52,9 +52,9 @@ module _ (s : List ℕ) where
     where
       go : (b : Bool) → x .1 s ≡ b → (firstFailed cs s ≡ Maybe.Some c → FailsFirst cs c s)
           → orFailed b (x .0) (firstFailed cs s) ≡ Maybe.Some c → FailsFirst (x ∷ cs) c s
-      go true h more e = behind-held x cs c h (more e)
+      go true h more e = after-held x cs c h (more e)
       go false h more e = let q : x .0 ≡ c = cc in
-          record { before = []; test = x .1; behind = cs; split = rw q; held = tt; failed = h }
+          record { before = []; test = x .1; after = cs; split = rw q; held = tt; failed = h }
 
 -- Checks in front of others: the first of them that fails is the first of all; where none fails the others decide.
 module _ (s : List ℕ) (ds : Checks) where

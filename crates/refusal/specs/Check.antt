@@ -10,7 +10,7 @@
 use mathlib.Core.Path.{_≡_}
 use mathlib.Core.Logic.{_≢_, _↔_, _⊎_}
 use mathlib.Core.List.{List, [], _∷_, _++_}
-use mathlib.Core.Bool.{Bool, true, false}
+use mathlib.Core.Bool.{Bool, true, false, cond}
 use Prim.Native.Nat.{ℕ}
 use Rattle.refusal.specs.declared.Error.{Error}
 use Rattle.refusal.specs.declared.Error.the-variants.{InvalidFormat, Unsupported}
@@ -26,8 +26,7 @@ abbrev pub Checks : Type 0
 Checks = List (Check × (List ℕ → Bool))
 
 abbrev pub orFailed : Bool → Check → MaybeCheck → MaybeCheck
-orFailed true c later = later
-orFailed false c later = Maybe.Some c
+orFailed holds c later = cond holds later (Maybe.Some c)
 
 abbrev pub firstFailed : Checks → List ℕ → MaybeCheck
 firstFailed [] s = Maybe.None
@@ -40,8 +39,8 @@ Passes (x ∷ cs) s = (x .1 s ≡ true) × Passes cs s
 pub record FailsFirst (cs : Checks) (c : Check) (s : List ℕ) : Type 0 where
   pub before : Checks
   pub test : List ℕ → Bool
-  pub behind : Checks
-  pub split : cs ≡ before ++ ((c, test) ∷ behind)
+  pub after : Checks
+  pub split : cs ≡ before ++ ((c, test) ∷ after)
   pub held : Passes before s
   pub failed : test s ≡ false
 

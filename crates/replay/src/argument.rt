@@ -6,7 +6,7 @@ use wire::MaybeU32;
 use wire::byte_at;
 use wire::le16;
 use wire::le32;
-use wire::least;
+use wire::min;
 ghost use Prim.Native.Nat.{_<_};
 
 pub fn u8_at(argument: &[u8], at: usize) -> u8 {
@@ -43,6 +43,6 @@ pub fn usize_at(argument: &[u8], at: usize) -> usize
 
 // The bytes from a place on; none where the argument is not as long.
 pub fn rest(argument: &[u8], at: usize) -> &[u8] {
-    let start = least(at, argument.len());
+    let start = min(at, argument.len());
     &argument[start..]
 }

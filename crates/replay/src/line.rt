@@ -2,7 +2,7 @@
 //
 // Each function takes the buffer and how many of its bytes are taken, and answers how many are taken then.
 use libc::STDOUT_FILENO;
-use wire::least;
+use wire::min;
 ghost use Prim.Native.Nat.{_<_, _≤_};
 
 // Bytes of the buffer.
@@ -105,6 +105,6 @@ pub fn end(out: &mut Text, taken: usize) -> usize {
 // Writes what is taken.
 pub fn flush(out: &Text, taken: usize) {
     let bytes: &[u8] = out;
-    let n = least(taken, bytes.len());
+    let n = min(taken, bytes.len());
     io::write_all(STDOUT_FILENO, &bytes[0..n]);
 }

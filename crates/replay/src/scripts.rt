@@ -1,18 +1,19 @@
-// Ops 10, 11 and 13: a script of calls on one parser, handed on from call to call; each lends the parser. Each puts a
-// line, and a closing line follows.
+// Ops 10, 11 and 13: a script of calls on one parser, handed on from call to call. Each puts a line, and a closing line
+// follows.
 use crate::argument::u8_at;
 use crate::argument::u16_at;
 use crate::line;
 use crate::line::Row;
 use crate::line::Text;
 use crate::values;
+use frame::no_frame;
 use ld2410::FedSlice;
 use ld2410::Frame;
 use ld2410::MAX_FRAME;
 use ld2410::Parser;
 use ld2410::Span;
 use ld2410::Taken;
-use wire::least;
+use wire::min;
 ghost use Prim.Native.Nat.{_≤_};
 ghost use lib.ListN.{length};
 
@@ -57,12 +58,12 @@ fn call_size(script: &[u8]) -> usize
 fn call(parser: Parser, bytes: &[u8]) -> FedSlice {
     match u8_at(bytes, 0) {
         0 => fed(parser, u8_at(bytes, 1)),
-        1 => parser.fed_slice(&bytes[least(3, bytes.len())..]),
+        1 => parser.fed_slice(&bytes[min(3, bytes.len())..]),
         _ => FedSlice {
             parser: parser.cleared(),
             answer: Taken {
                 count: 0,
-                frame: Frame::none(),
+                frame: no_frame(),
             },
         },
     }
@@ -100,8 +101,8 @@ fn framed(out: &mut Text, taken: usize, frame: Frame, buf: &[u8; MAX_FRAME]) -> 
 // Puts the bytes of a payload, as far as they lie in the buffer.
 fn payload(out: &mut Text, taken: usize, span: Span, buf: &[u8; MAX_FRAME]) -> usize {
     let all: &[u8] = buf;
-    let start = least(span.start, MAX_FRAME);
-    let end = start + least(span.len, MAX_FRAME - start);
+    let start = min(span.start, MAX_FRAME);
+    let end = start + min(span.len, MAX_FRAME - start);
     line::bytes(out, taken, &all[start..end])
 }
 

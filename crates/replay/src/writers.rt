@@ -19,7 +19,7 @@ use ld2410::write_ack;
 use ld2410::write_report;
 use wire::copy_prefix;
 use wire::gate_array;
-use wire::least;
+use wire::min;
 
 // The longest buffer.
 const LONGEST: usize = 65_535;
@@ -63,7 +63,7 @@ fn write_in_front(
     argument: &[u8],
     buffer: &mut [u8],
 ) -> usize {
-    let end = least(u16_at(argument, 0) as usize, buffer.len());
+    let end = min(u16_at(argument, 0) as usize, buffer.len());
     write_to(out, taken, op, value_in(argument), &mut buffer[0..end])
 }
 

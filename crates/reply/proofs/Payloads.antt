@@ -12,11 +12,11 @@ use Rattle.reply.specs.Reply.{Reply, sized, readAs}
 
 -- A payload read as a reply: it is readable, or it is refused.
 module _ {A B : Type 0} (answer : Outcome → A → B) (r : Reply A) (p : List ℕ) where
-  pub read-fits : r .fits p ≡ true → readAs answer r p ≡ answer Ok (r .value p)
+  pub read-fits : r .readable p ≡ true → readAs answer r p ≡ answer Ok (r .value p)
   unfolding readAs
   read-fits e = rw e
 
-  pub read-refused : r .fits p ≡ false → readAs answer r p ≡ answer (Err InvalidFormat) (r .value p)
+  pub read-refused : r .readable p ≡ false → readAs answer r p ≡ answer (Err InvalidFormat) (r .value p)
   unfolding readAs
   read-refused e = rw e
 

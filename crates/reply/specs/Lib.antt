@@ -1,4 +1,4 @@
 pub mod Reply
 pub mod Replies
-pub mod Fixed
+pub mod ParametersHead
 pub mod Parameters

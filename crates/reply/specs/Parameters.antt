@@ -2,7 +2,7 @@
 -- all 0, the answer for an outcome and a value, and the number and the values that an answer returns.
 --   gatesIn p, stationaryAt p, secondsAt p   of a parameters payload p: how many gates, and where its parts start
 --   parametersFits, parametersOf, parametersReply, noParameters, parametersAs, returnedParameters
---   gatesOf v      how many gates the parameters v have, at most 9
+--   validGates v      how many gates the parameters v have, at most 9
 use mathlib.Core.List.{List}
 use mathlib.Core.Bool.{Bool, _&&_}
 use Prim.Native.Nat.{ℕ, _+_, min}
@@ -43,7 +43,7 @@ parametersOf p = record {
 }
 
 abbrev pub parametersReply : Reply Parameters
-parametersReply = record { word = 0x0061; fits = parametersFits; value = parametersOf }
+parametersReply = record { word = 0x0061; readable = parametersFits; value = parametersOf }
 
 abbrev pub noParameters : Parameters
 noParameters = record {
@@ -63,5 +63,5 @@ abbrev pub returnedParameters : ParametersResult → Returned Parameters
 returnedParameters r = beside (r .outcome) (r .parameters)
 
 -- "the array and its valid count, at most 9"
-abbrev pub gatesOf : Parameters → ℕ
-gatesOf v = min (v .«max_gate» + 1) 9
+abbrev pub validGates : Parameters → ℕ
+validGates v = min (v .«max_gate» + 1) 9

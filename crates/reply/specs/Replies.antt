@@ -1,4 +1,4 @@
--- Three of the four replies of document 01, point 3; the crate `parameters` has the fourth. Of each: what its payload
+-- Three of the four replies of document 01, point 3; Parameters.antt has the fourth. Of each: what its payload
 -- holds (Of), the reply, the value that is all 0 (no), the answer for an outcome and a value (As; every field 0 beside
 -- a refusal), and the number and the values that an answer returns (returned).
 --   enableConfigOf, enableConfigReply, noEnableConfig, enableConfigAs, returnedEnableConfig

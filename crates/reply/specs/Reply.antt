@@ -1,5 +1,6 @@
 -- A payload read as a reply: what every reply has in common.
---   judged same ok fits   the outcome by three tests: the word is the awaited one, `ok` is on, the payload is readable
+--   judged same ok readable   the outcome by three tests: the word is the awaited one, `ok` is on, the payload is
+--                       readable
 --   Reply A             a reply: the word of its command, which payloads are readable, and what these hold
 --   sized w n value     the reply to the word w in n bytes, which hold `value`
 --   readAs answer r p   the payload p read as the reply r; `answer` makes the code's answer of an outcome and a value
@@ -14,20 +15,20 @@ use Rattle.refusal.specs.declared.Outcome.the-variants.{Ok, Err}
 
 -- "checks the word (refusal 1) before `ok` (refusal 3)"; a "short payload" is refusal 1 too
 abbrev pub judged : Bool → Bool → Bool → Outcome
-judged false ok fits = Err InvalidFormat
-judged true false fits = Err Hardware
+judged false ok readable = Err InvalidFormat
+judged true false readable = Err Hardware
 judged true true false = Err InvalidFormat
 judged true true true = Ok
 
 pub record Reply (A : Type 0) : Type 0 where
   pub word : ℕ
-  pub fits : List ℕ → Bool
+  pub readable : List ℕ → Bool
   pub value : List ℕ → A
 
 -- "replies ignore surplus payload"
 abbrev pub sized : {A : Type 0} → ℕ → ℕ → (List ℕ → A) → Reply A
-sized w n value = record { word = w; fits = λ p. leb n (length p); value = value }
+sized w n value = record { word = w; readable = λ p. leb n (length p); value = value }
 
 module _ {A B : Type 0} (answer : Outcome → A → B) (r : Reply A) where
   unfoldable pub readAs : List ℕ → B
-  readAs p = answer (judged true true (r .fits p)) (r .value p)
+  readAs p = answer (judged true true (r .readable p)) (r .value p)

@@ -1,10 +1,12 @@
-// What an acknowledgement's payload holds, by the command that it answers: reading three of the four replies. The crate
-// `parameters` has the fourth.
-mod fixed;
+// What an acknowledgement's payload holds, by the command that it answers: reading three of the four replies. The
+// module `parameters` has the fourth.
 mod parameters;
+mod parameters_head;
 
 pub use parameters::Parameters;
 pub use parameters::ParametersResult;
+pub use parameters::read_parameters;
+pub use parameters::refused_parameters;
 use refusal::Error;
 use refusal::Outcome;
 use wire::MaybeU8;
@@ -57,71 +59,63 @@ pub struct MacResult {
     pub mac: Mac,
 }
 
-impl EnableConfig {
-    // Reads a payload that answers the command.
-    pub fn read(payload: &[u8]) -> EnableConfigResult
-        ensures read { λ r. ⌜ r ≡ readAs enableConfigAs enableConfigReply (now (payload .entry)) ⌝ }
-    {
-        let MaybeU16::Some(protocol_version) = le16(payload, 0) else {
-            return EnableConfigResult::Err(Error::InvalidFormat);
-        };
-        let MaybeU16::Some(buffer_size) = le16(payload, 2) else {
-            return EnableConfigResult::Err(Error::InvalidFormat);
-        };
-        EnableConfigResult::Ok(EnableConfig {
-            protocol_version,
-            buffer_size,
-        })
+// Reads a payload that answers `ENABLE_CONFIG`.
+pub fn read_enable_config(payload: &[u8]) -> EnableConfigResult
+    ensures read { λ r. ⌜ r ≡ readAs enableConfigAs enableConfigReply (now (payload .entry)) ⌝ }
+{
+    let MaybeU16::Some(protocol_version) = le16(payload, 0) else {
+        return EnableConfigResult::Err(Error::InvalidFormat);
+    };
+    let MaybeU16::Some(buffer_size) = le16(payload, 2) else {
+        return EnableConfigResult::Err(Error::InvalidFormat);
+    };
+    EnableConfigResult::Ok(EnableConfig {
+        protocol_version,
+        buffer_size,
+    })
+}
+
+// Reads a payload that answers `READ_FIRMWARE`.
+pub fn read_firmware_version(payload: &[u8]) -> FirmwareVersionResult
+    ensures read { λ r. ⌜ r ≡ readAs firmwareAs firmwareReply (now (payload .entry)) ⌝ }
+{
+    let MaybeU16::Some(firmware_type) = le16(payload, 0) else {
+        return FirmwareVersionResult::Err(Error::InvalidFormat);
+    };
+    let MaybeU16::Some(major) = le16(payload, 2) else {
+        return FirmwareVersionResult::Err(Error::InvalidFormat);
+    };
+    let MaybeU32::Some(minor) = le32(payload, 4) else {
+        return FirmwareVersionResult::Err(Error::InvalidFormat);
+    };
+    FirmwareVersionResult::Ok(FirmwareVersion {
+        firmware_type,
+        major,
+        minor,
+    })
+}
+
+// The refusal, with every byte of the address 0.
+pub fn refused_mac(error: Error) -> MacResult
+    ensures made { λ r. ⌜ r ≡ macAs (Outcome.Err error) noMac ⌝ }
+{
+    MacResult {
+        outcome: Outcome::Err(error),
+        mac: Mac([0; 6]),
     }
 }
 
-impl FirmwareVersion {
-    // Reads a payload that answers the command.
-    pub fn read(payload: &[u8]) -> FirmwareVersionResult
-        ensures read { λ r. ⌜ r ≡ readAs firmwareAs firmwareReply (now (payload .entry)) ⌝ }
-    {
-        let MaybeU16::Some(firmware_type) = le16(payload, 0) else {
-            return FirmwareVersionResult::Err(Error::InvalidFormat);
-        };
-        let MaybeU16::Some(major) = le16(payload, 2) else {
-            return FirmwareVersionResult::Err(Error::InvalidFormat);
-        };
-        let MaybeU32::Some(minor) = le32(payload, 4) else {
-            return FirmwareVersionResult::Err(Error::InvalidFormat);
-        };
-        FirmwareVersionResult::Ok(FirmwareVersion {
-            firmware_type,
-            major,
-            minor,
-        })
-    }
-}
-
-impl MacResult {
-    // The refusal, with every byte of the address 0.
-    pub fn refused(error: Error) -> Self
-        ensures made { λ r. ⌜ r ≡ macAs (Outcome.Err error) noMac ⌝ }
-    {
-        MacResult {
-            outcome: Outcome::Err(error),
-            mac: Mac([0; 6]),
-        }
-    }
-}
-
-impl Mac {
-    // Reads a payload that answers the command: where its sixth byte is there, the six are.
-    pub fn read(payload: &[u8]) -> MacResult
-        ensures read { λ r. ⌜ r ≡ readAs macAs macReply (now (payload .entry)) ⌝ }
-    {
-        let MaybeU8::Some(_) = byte_at(payload, 5) else {
-            return MacResult::refused(Error::InvalidFormat);
-        };
-        let mut bytes: [u8; 6] = [0; 6];
-        copy_prefix(&mut bytes, payload);
-        MacResult {
-            outcome: Outcome::Ok,
-            mac: Mac(bytes),
-        }
+// Reads a payload that answers `READ_MAC`: where its sixth byte is there, the six are.
+pub fn read_mac(payload: &[u8]) -> MacResult
+    ensures read { λ r. ⌜ r ≡ readAs macAs macReply (now (payload .entry)) ⌝ }
+{
+    let MaybeU8::Some(_) = byte_at(payload, 5) else {
+        return refused_mac(Error::InvalidFormat);
+    };
+    let mut bytes: [u8; 6] = [0; 6];
+    copy_prefix(&mut bytes, payload);
+    MacResult {
+        outcome: Outcome::Ok,
+        mac: Mac(bytes),
     }
 }

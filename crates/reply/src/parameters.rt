@@ -1,19 +1,20 @@
 // The reply that tells the parameters: reading it, and its accessors.
-use crate::fixed::Fixed;
-use crate::fixed::MaybeFixed;
+use crate::parameters_head::MaybeParametersHead;
+use crate::parameters_head::ParametersHead;
 use refusal::Error;
 use refusal::Outcome;
 use wire::GATES;
 use wire::GateValues;
 use wire::MaybeU16;
 use wire::gate_array;
+use wire::gate_values;
 use wire::le16;
-use wire::least;
+use wire::min;
 ghost use mathlib.Core.Path.{_≡_};
 ghost use Rattle.wire.specs.Gate.{gateValues};
 ghost use Rattle.refusal.specs.declared.Outcome.the-variants as Outcome;
 ghost use Rattle.reply.specs.Reply.{readAs};
-ghost use Rattle.reply.specs.Parameters.{parametersReply, parametersAs, noParameters, gatesOf};
+ghost use Rattle.reply.specs.Parameters.{parametersReply, parametersAs, noParameters, validGates};
 
 // Parameters payload: where the moving sensitivities start.
 const MOVING_AT: usize = 4;
@@ -38,74 +39,72 @@ pub struct ParametersResult {
     pub parameters: Parameters,
 }
 
-impl ParametersResult {
-    // The refusal, with every field of the parameters 0.
-    pub fn refused(error: Error) -> Self
-        ensures made { λ r. ⌜ r ≡ parametersAs (Outcome.Err error) noParameters ⌝ }
-    {
-        ParametersResult {
-            outcome: Outcome::Err(error),
-            parameters: Parameters {
-                max_gate: 0,
-                max_moving_gate: 0,
-                max_stationary_gate: 0,
-                moving_sensitivity: [0; GATES],
-                stationary_sensitivity: [0; GATES],
-                no_one_secs: 0,
-            },
-        }
+// The refusal, with every field of the parameters 0.
+pub fn refused_parameters(error: Error) -> ParametersResult
+    ensures made { λ r. ⌜ r ≡ parametersAs (Outcome.Err error) noParameters ⌝ }
+{
+    ParametersResult {
+        outcome: Outcome::Err(error),
+        parameters: Parameters {
+            max_gate: 0,
+            max_moving_gate: 0,
+            max_stationary_gate: 0,
+            moving_sensitivity: [0; GATES],
+            stationary_sensitivity: [0; GATES],
+            no_one_secs: 0,
+        },
     }
 }
 
 impl Parameters {
     // Number of gates: `max_gate` plus one, at most `GATES` whatever the field holds.
     pub fn gates(self) -> usize
-        ensures counted { λ r. ⌜ r ≡ gatesOf self ⌝ }
+        ensures counted { λ r. ⌜ r ≡ validGates self ⌝ }
     {
-        least(self.max_gate as usize + 1, GATES)
+        min(self.max_gate as usize + 1, GATES)
     }
 
     // Valid moving sensitivities, gate 0 first.
     pub fn moving(self) -> GateValues
-        ensures given { λ r. ⌜ r ≡ gateValues (self .«moving_sensitivity») (gatesOf self) ⌝ }
+        ensures given { λ r. ⌜ r ≡ gateValues (self .«moving_sensitivity») (validGates self) ⌝ }
     {
         let sensitivities = self.moving_sensitivity;
-        GateValues::new(sensitivities, self.gates())
+        gate_values(sensitivities, self.gates())
     }
 
     // Valid stationary sensitivities, gate 0 first.
     pub fn stationary(self) -> GateValues
-        ensures given { λ r. ⌜ r ≡ gateValues (self .«stationary_sensitivity») (gatesOf self) ⌝ }
+        ensures given { λ r. ⌜ r ≡ gateValues (self .«stationary_sensitivity») (validGates self) ⌝ }
     {
         let sensitivities = self.stationary_sensitivity;
-        GateValues::new(sensitivities, self.gates())
+        gate_values(sensitivities, self.gates())
     }
+}
 
-    // Reads a payload that answers the command: where its seconds are there, so are the sensitivities before them.
-    pub fn read(payload: &[u8]) -> ParametersResult
-        ensures read { λ r. ⌜ r ≡ readAs parametersAs parametersReply (now (payload .entry)) ⌝ }
-    {
-        let MaybeFixed::Some(fixed) = Fixed::read(payload) else {
-            return ParametersResult::refused(Error::InvalidFormat);
-        };
-        let gates = fixed.max_gate as usize + 1;
-        let stationary_at = MOVING_AT + gates;
-        let seconds_at = stationary_at + gates;
-        let MaybeU16::Some(no_one_secs) = le16(payload, seconds_at) else {
-            return ParametersResult::refused(Error::InvalidFormat);
-        };
-        let moving_sensitivity = gate_array(&payload[MOVING_AT..stationary_at]);
-        let stationary_sensitivity = gate_array(&payload[stationary_at..seconds_at]);
-        ParametersResult {
-            outcome: Outcome::Ok,
-            parameters: Parameters {
-                max_gate: fixed.max_gate,
-                max_moving_gate: fixed.max_moving_gate,
-                max_stationary_gate: fixed.max_stationary_gate,
-                moving_sensitivity,
-                stationary_sensitivity,
-                no_one_secs,
-            },
-        }
+// Reads a payload that answers `READ_PARAMETERS`: where its seconds are there, so are the sensitivities before them.
+pub fn read_parameters(payload: &[u8]) -> ParametersResult
+    ensures read { λ r. ⌜ r ≡ readAs parametersAs parametersReply (now (payload .entry)) ⌝ }
+{
+    let MaybeParametersHead::Some(head) = ParametersHead::read(payload) else {
+        return refused_parameters(Error::InvalidFormat);
+    };
+    let gates = head.max_gate as usize + 1;
+    let stationary_at = MOVING_AT + gates;
+    let seconds_at = stationary_at + gates;
+    let MaybeU16::Some(no_one_secs) = le16(payload, seconds_at) else {
+        return refused_parameters(Error::InvalidFormat);
+    };
+    let moving_sensitivity = gate_array(&payload[MOVING_AT..stationary_at]);
+    let stationary_sensitivity = gate_array(&payload[stationary_at..seconds_at]);
+    ParametersResult {
+        outcome: Outcome::Ok,
+        parameters: Parameters {
+            max_gate: head.max_gate,
+            max_moving_gate: head.max_moving_gate,
+            max_stationary_gate: head.max_stationary_gate,
+            moving_sensitivity,
+            stationary_sensitivity,
+            no_one_secs,
+        },
     }
 }

@@ -1,9 +1,8 @@
 -- The nine basic bytes of a report.
 --   basicOf b             the fields of the nine basic bytes in front of b
---   basicIf there f       the fields f, if they are there
 --   basicAt b             the fields of the nine basic bytes in front of b, if they are there
 use mathlib.Core.List.{List}
-use mathlib.Core.Bool.{Bool, true, false}
+use mathlib.Core.Bool.{cond}
 use Prim.Native.Nat.{ℕ}
 use lib.Dec.{leb}
 use lib.ListN.{length, getD, take, drop}
@@ -23,9 +22,5 @@ basicOf b = record {
   «detection_distance_cm» = little (take 2 (drop 7 b));
 }
 
-abbrev pub basicIf : Bool → Basic → MaybeBasic
-basicIf true f = MaybeBasic.Some f
-basicIf false f = MaybeBasic.None
-
 unfoldable pub basicAt : List ℕ → MaybeBasic
-basicAt b = basicIf (leb 9 (length b)) (basicOf b)
+basicAt b = cond (leb 9 (length b)) (MaybeBasic.Some (basicOf b)) MaybeBasic.None

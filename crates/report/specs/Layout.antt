@@ -1,9 +1,9 @@
 -- Report data: `data_type`, AA, nine bytes, an engineering block, 55, 00.
---   dataType s            the type of the data s
---   body s                what stands in s between AA and the last two bytes
---   block s               what stands there after the nine basic bytes
---   isEngineering t       the type t is that of an engineering report
---   layoutOf s          the type and the basic bytes of the data s
+--   dataType s        the type of the data s
+--   body s            what stands in s between AA and the last two bytes
+--   block s           what stands there after the nine basic bytes
+--   isEngineering t   the type t is that of an engineering report
+--   layoutOf s        the type and the basic bytes of the data s
 use mathlib.Core.List.{List}
 use mathlib.Core.Bool.{Bool}
 use Prim.Native.Nat.{ℕ, _-_}

@@ -16,7 +16,7 @@ use Rattle.refusal.specs.Check.{Checks, firstFailed}
 use Rattle.refusal.specs.declared.Check.the-variants.{R1, R2, R3, R4, R5, R6, R7, R8}
 use Rattle.refusal.specs.declared.MaybeCheck.{MaybeCheck}
 use Rattle.refusal.specs.declared.MaybeCheck.the-variants.{Some, None}
-use Rattle.engineering.specs.Gates.{fits}
+use Rattle.engineering.specs.Gates.{gatesFit}
 use Rattle.report.specs.Layout.{dataType, body, block, isEngineering, layoutOf}
 use Rattle.report.specs.declared.layout.Layout.{Layout}
 use Rattle.report.specs.declared.layout.CheckedLayout.{CheckedLayout}
@@ -46,7 +46,7 @@ abbrev pub nothingAfter : ℕ → List ℕ → Bool
 nothingAfter t b = not (eqb t 0x02) || eqb (length b) 0
 
 abbrev pub blockFits : ℕ → List ℕ → Bool
-blockFits t b = not (isEngineering t) || fits b
+blockFits t b = not (isEngineering t) || gatesFit b
 
 abbrev pub r6 : List ℕ → Bool
 r6 s = knownType (dataType s)

@@ -6,7 +6,7 @@
 --   targetIf there d e    the target at distance d with energy e, if it is there
 --   movingTarget r, stationaryTarget r   the targets of the report r, where its state says that they are there
 use mathlib.Core.List.{List}
-use mathlib.Core.Bool.{Bool, true, false}
+use mathlib.Core.Bool.{Bool, false, cond}
 use Prim.Native.Nat.{ℕ}
 use Rattle.target_state.specs.State.{stateOf, movingOf, stationaryOf}
 use Rattle.engineering.specs.Block.{engineeringIf, noEngineering}
@@ -50,8 +50,7 @@ noReport = record {
 }
 
 abbrev pub targetIf : Bool → ℕ → ℕ → MaybeTarget
-targetIf true d e = MaybeTarget.Some (record { «distance_cm» = d; energy = e })
-targetIf false d e = MaybeTarget.None
+targetIf there d e = cond there (MaybeTarget.Some (record { «distance_cm» = d; energy = e })) MaybeTarget.None
 
 abbrev pub movingTarget : Report → MaybeTarget
 movingTarget r = targetIf (movingOf (r .state)) (r .«moving_distance_cm») (r .«moving_energy»)

@@ -25,7 +25,7 @@ pub enum MaybeBasic {
 
 impl Basic {
     // Reads the nine basic bytes at the front of `body`.
-    pub fn read(body: &[u8]) -> MaybeBasic
+    pub(crate) fn read(body: &[u8]) -> MaybeBasic
         ensures read { λ r. ⌜ r ≡ basicAt (now (body .entry)) ⌝ }
     {
         let MaybeU8::Some(state) = byte_at(body, 0) else {

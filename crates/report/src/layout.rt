@@ -6,7 +6,7 @@ use refusal::Check;
 use refusal::MaybeCheck;
 use wire::MaybeU8;
 use wire::byte_at;
-use wire::same;
+use wire::bytes_eq;
 ghost use mathlib.Core.Path.{_≡_};
 ghost use Rattle.report.specs.LayoutCheck.{checkedLayout, failedIn};
 
@@ -30,7 +30,7 @@ pub enum CheckedLayout {
 
 impl CheckedLayout {
     // The check that failed first, if one did.
-    pub fn failed(self) -> MaybeCheck
+    pub(crate) fn failed(self) -> MaybeCheck
         ensures told { λ r. ⌜ r ≡ failedIn self ⌝ }
     {
         match self {
@@ -42,7 +42,7 @@ impl CheckedLayout {
 
 impl Layout {
     // Reads the data of a report frame, all between its length and its tail, by the checks R1 to R5 in this order.
-    pub fn checked(data: &[u8]) -> CheckedLayout
+    pub(crate) fn checked(data: &[u8]) -> CheckedLayout
         ensures checked { λ r. ⌜ r ≡ checkedLayout (now («data» .entry)) ⌝ }
     {
         let MaybeU8::Some(data_type) = byte_at(data, 0) else {
@@ -60,7 +60,7 @@ impl Layout {
         };
         let end = data.len() - 2;
         let trailer = REPORT_TRAILER;
-        if !same(&data[end..], &trailer) {
+        if !bytes_eq(&data[end..], &trailer) {
             return CheckedLayout::Failed(Check::R4);
         }
         let MaybeBasic::Some(basic) = Basic::read(&data[2..end]) else {

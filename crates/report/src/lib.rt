@@ -8,6 +8,7 @@ mod targets;
 use basic::Basic;
 use engineering::Engineering;
 use engineering::no_engineering;
+use engineering::read_block;
 use layout::CheckedLayout;
 use layout::Layout;
 pub use layout::REPORT_HEAD;
@@ -104,7 +105,7 @@ impl CheckedReport {
     fn with_block(basic: Basic, block: &[u8]) -> Self
         ensures checked { λ r. ⌜ r ≡ completedReport basic 0x01 (now (block .entry)) ⌝ }
     {
-        let read = Engineering::parse(block);
+        let read = read_block(block);
         let failed = read.failed;
         let MaybeCheck::None = failed else {
             return CheckedReport::failing(failed);
@@ -141,25 +142,12 @@ impl Report {
         }
     }
 
-    // Reads the data of a report frame, all between its length and its tail, by the checks R1 to R8 in this order.
-    pub fn checked(data: &[u8]) -> CheckedReport
-        ensures checked { λ r. ⌜ r ≡ checkedReport (now («data» .entry)) ⌝ }
-    {
-        let read = Layout::checked(data);
-        let CheckedLayout::Ok(layout) = read else {
-            return CheckedReport::failing(read.failed());
-        };
-        let basic = layout.basic;
-        let end = data.len() - 2;
-        CheckedReport::completed(basic, layout.data_type, &data[BLOCK_AT..end])
-    }
-
     // Reads the data of a report frame. Refused with 2 where R6 is the first check that fails, with 1 where another is.
     pub fn parse(data: &[u8]) -> ReportResult
         ensures parsed { λ r. ⌜ r ≡ parsedReport (now («data» .entry)) ⌝ }
         ensures causes { λ r. ⌜ Causes noReport reportChecks (now («data» .entry)) (returnedReport r) ⌝ }
     {
-        let checked = Report::checked(data);
+        let checked = checked_report(data);
         let failed = checked.failed;
         let report = checked.report;
         ReportResult {
@@ -167,6 +155,19 @@ impl Report {
             report,
         }
     }
+}
+
+// Reads the data of a report frame, all between its length and its tail, by the checks R1 to R8 in this order.
+pub fn checked_report(data: &[u8]) -> CheckedReport
+    ensures checked { λ r. ⌜ r ≡ checkedReport (now («data» .entry)) ⌝ }
+{
+    let read = Layout::checked(data);
+    let CheckedLayout::Ok(layout) = read else {
+        return CheckedReport::failing(read.failed());
+    };
+    let basic = layout.basic;
+    let end = data.len() - 2;
+    CheckedReport::completed(basic, layout.data_type, &data[BLOCK_AT..end])
 }
 
 // A report whose fields are all 0: what stands beside a refusal, or where a frame holds no report.

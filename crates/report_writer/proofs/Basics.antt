@@ -1,14 +1,13 @@
 -- The nine basic bytes: what is written is read as it was, and what is read is written as it was.
-use mathlib.Core.Path.{_≡_, refl, sym, ap, _∙_}
-use mathlib.Core.List.{List, [], _∷_, _++_}
-use Prim.Native.Nat.{ℕ, _+_, _/_, _%_, _≤_, _<_}
+use mathlib.Core.Path.{_≡_, refl, sym}
+use mathlib.Core.List.{List, _∷_, _++_}
+use Prim.Native.Nat.{ℕ, _+_, _≤_, _<_}
 use native.Mathlib.Numerals.{add-one}
 use native.Mathlib.Omega.{arith}
-use lib.ListN.{length, getD, take, drop, length-take, length-drop, take-append-drop}
-use lib.Seq.{drop-cons, drop-drop}
-use Rattle.wire.specs.Number.{little, leBytes}
+use lib.ListN.{length, getD, drop}
+use lib.Seq.{drop-cons}
 use Rattle.wire.specs.Bytes.{Bytes}
-use Rattle.writer.proofs.Bytes.{bytes-take, bytes-drop, leBytes-little}
+use Rattle.wire.proofs.Bytes.{leBytes-again, little-two}
 use Rattle.target_state.specs.State.{stateMax}
 use Rattle.report.specs.Basic.{basicOf}
 use Rattle.report.specs.Report.{reportWith}
@@ -19,41 +18,30 @@ use Rattle.report_writer.specs.Data.{basicBytes}
 use Rattle.report_writer.proofs.Typed.{TypedReport}
 use mathlib.Core.Bool.{Bool}
 
-two-bytes : (x : ℕ) → x < 65536 → little (x % 256 ∷ x / 256 % 256 ∷ []) ≡ x
-two-bytes x h = omega arith
-
 -- The fields come back, whatever stands after the nine bytes.
 pub basic-back : (r : Report) (b : List ℕ) {g : Bool} {x : Engineering} → TypedReport r → g ≡ r .«has_engineering»
     → x ≡ r .engineering → reportWith (basicOf (basicBytes r ++ b)) g x ≡ r
 basic-back r b t p q =
     rw (
       state-byte (r .state),
-      two-bytes (r .«moving_distance_cm») (t .moving-distance),
-      two-bytes (r .«stationary_distance_cm») (t .stationary-distance),
-      two-bytes (r .«detection_distance_cm») (t .detection-distance),
+      little-two (r .«moving_distance_cm») (t .moving-distance),
+      little-two (r .«stationary_distance_cm») (t .stationary-distance),
+      little-two (r .«detection_distance_cm») (t .detection-distance),
       p,
       q,
     )
 
--- A byte, and two bytes that are a number, in front of the rest.
-module _ (s : List ℕ) (i : ℕ) where
-  byte-again : (r : List ℕ) → i < length s → r ≡ drop (i + 1) s → getD s i 0 ∷ r ≡ drop i s
-  byte-again r h e = rw (e, add-one i) (sym (drop-cons s i 0 h))
-
-  number-again : (r : List ℕ) → Bytes s → i + 2 ≤ length s → r ≡ drop (i + 2) s
-      → leBytes 2 (little (take 2 (drop i s))) ++ r ≡ drop i s
-  number-again r b h e =
-      let l : length (take 2 (drop i s)) ≡ 2 = simp (length-take, length-drop) (omega arith) in
-      let n = leBytes-little (take 2 (drop i s)) (bytes-take 2 (drop i s) (bytes-drop i s b)) in
-      ap (λ x. x ++ r) (rw l at n) ∙ rw (e, ← drop-drop 2 i s) (take-append-drop 2 (drop i s))
+-- A byte in front of the rest.
+byte-again : (s : List ℕ) (i : ℕ) (r : List ℕ) → i < length s → r ≡ drop (i + 1) s → getD s i 0 ∷ r ≡ drop i s
+byte-again s i r h e = rw (e, add-one i) (sym (drop-cons s i 0 h))
 
 -- So do the bytes, where the state byte is one that is sent.
 pub basic-again : (s : List ℕ) (flag : Bool) (e : Engineering) → 9 ≤ length s → Bytes s
     → getD s 0 0 ≤ stateMax → basicBytes (reportWith (basicOf s) flag e) ++ drop 9 s ≡ s
 basic-again s flag e h b k =
-    let s₇ = number-again s 7 (drop 9 s) b (omega arith) refl in
+    let s₇ = leBytes-again 2 s 7 (drop 9 s) b (omega arith) refl in
     let s₆ = byte-again s 6 _ (omega arith) s₇ in
-    let s₄ = number-again s 4 _ b (omega arith) s₆ in
+    let s₄ = leBytes-again 2 s 4 _ b (omega arith) s₆ in
     let s₃ = byte-again s 3 _ (omega arith) s₄ in
-    let s₁ = number-again s 1 _ b (omega arith) s₃ in
+    let s₁ = leBytes-again 2 s 1 _ b (omega arith) s₃ in
     rw (byte-kept (getD s 0 0) k) (byte-again s 0 _ (omega arith) s₁)

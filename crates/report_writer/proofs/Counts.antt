@@ -1,19 +1,19 @@
 -- The tests of counts, and what they say: a count within its bounds, and what is past it 0.
-use mathlib.Core.Path.{_≡_, _∙_}
+use mathlib.Core.Path.{_≡_, refl, _∙_}
 use mathlib.Core.List.{List}
-use mathlib.Core.Bool.{true, false, _&&_}
+use mathlib.Core.Bool.{Bool, true, false, cond, _&&_, and-eq-true-iff}
 use Prim.Native.Nat.{ℕ, _≤_, _<_}
 use lib.Dec.{leb}
 use lib.ListN.{drop}
 use borrow.Author.Tests.{le-leb, lt-leb, leb-true}
-use Rattle.wire.proofs.Equality.{both-true}
 use Rattle.engineering.specs.declared.Engineering.{Engineering}
-use Rattle.report_writer.specs.Writable.{allZero, counted, within}
+use Rattle.report.specs.declared.Report.{Report}
+use Rattle.report_writer.specs.Writable.{allZero, counted, within, writable}
 
 pub record Counted (a b n : ℕ) (s : List ℕ) : Type 0 where
   pub least : a ≤ n
   pub most : n ≤ b
-  pub behind : allZero (drop n s) ≡ true
+  pub after : allZero (drop n s) ≡ true
 
 module _ (a b n : ℕ) (s : List ℕ) where
   pub counted-below : n < a → counted a b n s ≡ false
@@ -31,12 +31,12 @@ module _ (a b n : ℕ) (s : List ℕ) where
   counted-sound : counted a b n s ≡ true → Counted a b n s
   unfolding counted
   counted-sound e =
-      let x = both-true (leb a n) (leb n b && allZero (drop n s)) e in
-      let y = both-true (leb n b) (allZero (drop n s)) (x .1) in
-      record { least = leb-true a n (x .0); most = leb-true n b (y .0); behind = y .1 }
+      let x = and-eq-true-iff (leb a n) (leb n b && allZero (drop n s)) .0 e in
+      let y = and-eq-true-iff (leb n b) (allZero (drop n s)) .0 (x .1) in
+      record { least = leb-true a n (x .0); most = leb-true n b (y .0); after = y .1 }
 
   counted-complete : Counted a b n s → counted a b n s ≡ true
-  counted-complete h = counted-zeros (h .least) (h .most) ∙ h .behind
+  counted-complete h = counted-zeros (h .least) (h .most) ∙ h .after
 
 pub record Within (a b k : ℕ) (e : Engineering) : Type 0 where
   pub moving : Counted a b (e .«moving_gates») (e .«moving_energy»)
@@ -62,8 +62,8 @@ module _ (a b k : ℕ) (e : Engineering) where
   pub within-sound : within a b k e ≡ true → Within a b k e
   unfolding within
   within-sound h =
-      let x = both-true _ _ h in
-      let y = both-true _ _ (x .1) in
+      let x = and-eq-true-iff _ _ .0 h in
+      let y = and-eq-true-iff _ _ .0 (x .1) in
       record {
         moving = counted-sound a b _ _ (x .0);
         stationary = counted-sound a b _ _ (y .0);
@@ -74,3 +74,16 @@ module _ (a b k : ℕ) (e : Engineering) where
   within-complete h =
       within-third (counted-complete a b _ _ (h .moving)) (counted-complete a b _ _ (h .stationary))
       ∙ counted-complete 0 k _ _ (h .reserved)
+
+-- A report that can be written: its flag is on, or off, and its counts are within the bounds for it.
+pub data Writable (r : Report) : Type 0 where
+  flag-on : r .«has_engineering» ≡ true → Within 1 9 8 (r .engineering) → Writable r
+  flag-off : r .«has_engineering» ≡ false → Within 0 0 0 (r .engineering) → Writable r
+
+pub writable-sound : (r : Report) → writable r ≡ true → Writable r
+writable-sound r e = go (r .«has_engineering») refl e
+  where
+    go : (g : Bool) → r .«has_engineering» ≡ g
+        → cond g (within 1 9 8 (r .engineering)) (within 0 0 0 (r .engineering)) ≡ true → Writable r
+    go true h e = flag-on h (within-sound 1 9 8 (r .engineering) e)
+    go false h e = flag-off h (within-sound 0 0 0 (r .engineering) e)

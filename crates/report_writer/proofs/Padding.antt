@@ -1,7 +1,7 @@
 -- A counted prefix padded with zeros: it comes back from an array that is 0 after it, and the array from it.
 use mathlib.Core.Path.{_≡_, refl, sym}
 use mathlib.Core.List.{List, [], _∷_, _++_}
-use mathlib.Core.Bool.{true}
+use mathlib.Core.Bool.{true, and-eq-true-iff}
 use Prim.Native.Nat.{ℕ, zero, suc, _-_, _≤_}
 use native.Mathlib.Omega.{arith}
 use lib.Dec.{eqb}
@@ -9,7 +9,6 @@ use lib.ListN.{length, take, drop, replicate, length-drop, take-append-drop}
 use lib.Seq.{length-take-le, take-all, take-at, drop-at}
 use borrow.Author.Tests.{eqb-true}
 use Rattle.wire.specs.Prefix.{padded}
-use Rattle.wire.proofs.Equality.{both-true}
 use Rattle.report_writer.specs.Writable.{allZero}
 use Rattle.report_writer.proofs.Counts.{Counted}
 use Rattle.report_writer.proofs.Typed.{Held}
@@ -18,7 +17,7 @@ zeros-sound : (s : List ℕ) → allZero s ≡ true → s ≡ replicate (length 
 unfolding allZero
 zeros-sound [] e = refl
 zeros-sound (b ∷ s) e =
-    let h = both-true (eqb b 0) (allZero s) e in
+    let h = and-eq-true-iff (eqb b 0) (allZero s) .0 e in
     let z = eqb-true b 0 (h .0) in
     let t = zeros-sound s (h .1) in
     cc
@@ -36,15 +35,15 @@ module _ {a b k n : ℕ} {s : List ℕ} (h : Held k s) (c : Counted a b n s) whe
       let t = length-take-le n s (omega arith) in
       let short = take-all k (take n s) (omega arith) in
       let d : length (drop n s) ≡ k - n = omega (arith, length-drop n s) in
-      let e = rw d at (zeros-sound (drop n s) (c .behind)) in
+      let e = rw d at (zeros-sound (drop n s) (c .after)) in
       rw (short, t, ← e) (take-append-drop n s)
 
 pub zeros-whole : {k n : ℕ} {s : List ℕ} → Held k s → Counted 0 0 n s → replicate k 0 ≡ s
 zeros-whole {n} {s} h c =
     let e : n ≡ 0 = omega arith in
-    rw (← h .size) (sym (zeros-sound s (rw e at (c .behind))))
+    rw (← h .size) (sym (zeros-sound s (rw e at (c .after))))
 
--- What was padded stands at the front, and what is after it is 0.
+-- What was padded stands at the front, and is counted: what is after it is 0.
 module _ (k n : ℕ) (s : List ℕ) (l : length s ≡ n) (h : n ≤ k) where
   padded-whole : padded k s ≡ s ++ replicate (k - length s) 0
   unfolding padded
@@ -53,5 +52,9 @@ module _ (k n : ℕ) (s : List ℕ) (l : length s ≡ n) (h : n ≤ k) where
   pub padded-front : take n (padded k s) ≡ s
   padded-front = rw padded-whole (take-at s (replicate (k - length s) 0) n l)
 
-  pub padded-behind : allZero (drop n (padded k s)) ≡ true
-  padded-behind = rw (padded-whole, drop-at s (replicate (k - length s) 0) n l) (zeros-replicate (k - length s))
+  pub padded-counted : (a b : ℕ) → a ≤ n → n ≤ b → Counted a b n (padded k s)
+  padded-counted a b least most = record {
+    least = least;
+    most = most;
+    after = rw (padded-whole, drop-at s (replicate (k - length s) 0) n l) (zeros-replicate (k - length s));
+  }

@@ -10,7 +10,7 @@ use lib.Seq.{take-at, drop-at, drop-drop}
 use borrow.Author.Tests.{le-leb, leb-true, eqb-true}
 use Rattle.refusal.specs.Check.{Passes}
 use Rattle.wire.proofs.Equality.{same-sound, same-complete}
-use Rattle.engineering.specs.Gates.{fits}
+use Rattle.engineering.specs.Gates.{gatesFit}
 use Rattle.report.specs.Layout.{dataType, body, block}
 use Rattle.report.specs.LayoutCheck.{reportChecks, knownType, nothingAfter, blockFits}
 use Rattle.engineering.proofs.Counts.{Fits, fits-sound}
@@ -59,7 +59,7 @@ empty (x ∷ b) e = absurd (omega arith)
 
 module _ (t : ℕ) (b : List ℕ) where
   view-by : (x y : Bool) → eqb t 0x01 ≡ x → eqb t 0x02 ≡ y → x || y ≡ true → not y || eqb (length b) 0 ≡ true
-      → not x || fits b ≡ true → View t b
+      → not x || gatesFit b ≡ true → View t b
   view-by true y e f k n h = full (eqb-true t 0x01 e) (fits-sound b h)
   view-by false true e f k n h = plain (eqb-true t 0x02 f) (empty b (eqb-true (length b) 0 n))
   view-by false false e f k n h = let z : _≡_ {A = ℕ} 0 1 = cc in absurd (omega arith)

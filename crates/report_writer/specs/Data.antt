@@ -1,17 +1,17 @@
 -- The frame of a report: "report data are `data_type`, AA, nine bytes, an engineering block, 55, 00".
---   typeOf flag        the type: 01 with an engineering block, 02 without
---   basicBytes r       the nine basic bytes of the report r
---   frontOf r          type, AA and the nine basic bytes
---   highestGates e     `max_moving_gate` and `max_stationary_gate`
+--   typeOf flag          the type: 01 with an engineering block, 02 without
+--   basicBytes r         the nine basic bytes of the report r
+--   frontOf r            type, AA and the nine basic bytes
+--   highestGates e       `max_moving_gate` and `max_stationary_gate`
 --   movingEnergies e, stationaryEnergies e   the energies of each
---   reservedBytes e    the reserved bytes
---   blockOf e          the engineering block
---   blockIf flag e     the same where the flag is on; nothing where it is off
---   trailer            55, 00
---   reportData r       the data
---   reportFrame r      the frame
+--   reservedBytes e      the reserved bytes
+--   engineeringBlock e   the engineering block
+--   blockOf r            the engineering block of the report r, nothing where its flag is off
+--   trailer              55, 00
+--   reportData r         the data
+--   reportFrame r        the frame
 use mathlib.Core.List.{List, [], _∷_, _++_}
-use mathlib.Core.Bool.{Bool, true, false}
+use mathlib.Core.Bool.{Bool, cond}
 use Prim.Native.Nat.{ℕ, _-_}
 use lib.ListN.{take}
 use Rattle.wire.specs.Number.{leBytes}
@@ -23,8 +23,7 @@ use Rattle.report.specs.declared.Report.{Report}
 
 -- "R6 `data_type` is 01 or 02; R7 for 02, nothing after the nine; R8 for 01, the block fits"
 abbrev pub typeOf : Bool → ℕ
-typeOf true = 0x01
-typeOf false = 0x02
+typeOf flag = cond flag 0x01 0x02
 
 -- "nine bytes (state; moving distance, two bytes; energy; stationary distance, two; energy; detection distance, two)"
 abbrev pub basicBytes : Report → List ℕ
@@ -50,18 +49,17 @@ stationaryEnergies e = take (e .«stationary_gates») (e .«stationary_energy»)
 abbrev pub reservedBytes : Engineering → List ℕ
 reservedBytes e = take (e .«extra_len») (e .extra)
 
-unfoldable pub blockOf : Engineering → List ℕ
-blockOf e = highestGates e ++ (movingEnergies e ++ (stationaryEnergies e ++ reservedBytes e))
+unfoldable pub engineeringBlock : Engineering → List ℕ
+engineeringBlock e = highestGates e ++ (movingEnergies e ++ (stationaryEnergies e ++ reservedBytes e))
 
-abbrev pub blockIf : Bool → Engineering → List ℕ
-blockIf true e = blockOf e
-blockIf false e = []
+abbrev pub blockOf : Report → List ℕ
+blockOf r = cond (r .«has_engineering») (engineeringBlock (r .engineering)) []
 
 abbrev pub trailer : List ℕ
 trailer = 0x55 ∷ 0x00 ∷ []
 
 unfoldable pub reportData : Report → List ℕ
-reportData r = frontOf r ++ (blockIf (r .«has_engineering») (r .engineering) ++ trailer)
+reportData r = frontOf r ++ (blockOf r ++ trailer)
 
 abbrev pub reportFrame : Report → List ℕ
 reportFrame r = framed Family.Report (reportData r)

@@ -1,4 +1,3 @@
 pub mod RoundTrip
 pub mod Writable
 pub mod Data
-pub mod Laid

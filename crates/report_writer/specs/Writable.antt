@@ -2,11 +2,11 @@
 --   allZero s          every entry of s is 0
 --   counted a b n s    the count n is a to b, and every entry of s past the first n is 0
 --   within a b k e     each count of energies of e is so within a to b, that of reserved bytes within 0 to k
---   writableIf flag e  with the flag on, gate counts are 1 to 9 and `extra_len` is at most 8; with it off, all are 0
---   writable r         the same of the flag and the block of the report r
+--   writable r         with the flag of r on, its gate counts are 1 to 9 and `extra_len` is at most 8; with it off, all
+--                      are 0
 --   unrepresentable r  refusal 6, unless the report can be written
 use mathlib.Core.List.{List, [], _∷_}
-use mathlib.Core.Bool.{Bool, true, false, _&&_}
+use mathlib.Core.Bool.{Bool, true, cond, _&&_}
 use mathlib.Core.Option.{Option}
 use Prim.Native.Nat.{ℕ}
 use lib.Dec.{leb, eqb}
@@ -30,13 +30,9 @@ within a b k e =
     && (counted a b (e .«stationary_gates») (e .«stationary_energy») && counted 0 k (e .«extra_len») (e .extra))
 
 -- "`max_moving_gate`, `max_stationary_gate` (each 0 to 8), that many plus one energies of each"; "`extra_len` above 8"
-abbrev pub writableIf : Bool → Engineering → Bool
-writableIf true e = within 1 9 8 e
--- "with the flag off, each per-gate field is 0"
-writableIf false e = within 0 0 0 e
-
+-- and "with the flag off, each per-gate field is 0"
 abbrev pub writable : Report → Bool
-writable r = writableIf (r .«has_engineering») (r .engineering)
+writable r = cond (r .«has_engineering») (within 1 9 8 (r .engineering)) (within 0 0 0 (r .engineering))
 
 -- "a value that the reader can't give, `extra_len` above 8"
 abbrev pub unrepresentable : Report → Option Error

@@ -6,14 +6,16 @@ mod writable;
 
 use refusal::Error;
 use report::Report;
-use report_data::lay;
+use report_data::MAX_REPORT;
+use report_data::encode_data;
 use wire::Kind;
+use writable::is_writable;
 use writer::WriteResult;
 use writer::put_frame;
 ghost use mathlib.Core.Path.{_≡_};
 ghost use mathlib.Core.Bool.{false};
 ghost use lib.ListN.{length};
-ghost use Rattle.writer.specs.Written.{answerOf, bufferAfter, WriteCauses};
+ghost use Rattle.writer.specs.Written.{writeResult, bufferAfter, WriteCauses};
 ghost use Rattle.writer.specs.RoundTrip.{RoundTrip};
 ghost use Rattle.report_writer.specs.Data.{reportFrame};
 ghost use Rattle.report_writer.specs.Writable.{writable, unrepresentable};
@@ -23,17 +25,17 @@ ghost use Rattle.report_writer.specs.RoundTrip.{reports};
 // reader cannot give, or one of more than eight reserved bytes; then with 4 a buffer shorter than the frame. Bytes
 // after the frame stay, and a refused call changes none.
 pub fn write_report(out: &mut [u8], report: Report) -> WriteResult
-    ensures told { λ r. ⌜ r ≡ answerOf (unrepresentable report) (reportFrame report) (length (now (out .entry))) ⌝ }
+    ensures told { λ r. ⌜ r ≡ writeResult (unrepresentable report) (reportFrame report) (length (now (out .entry))) ⌝ }
     ensures left { λ _. ⌜ now (out .exit) ≡ bufferAfter (unrepresentable report) (reportFrame report)
         (now (out .entry)) ⌝ }
     ensures causes { λ r. ⌜ WriteCauses 6 (writable report ≡ false) (reportFrame report)
         (length (now (out .entry))) r ⌝ }
     ensures round { λ _. ⌜ RoundTrip reports report ⌝ }
 {
-    let laid = lay(report);
-    if !laid.writable {
+    if !is_writable(report) {
         return WriteResult::Err(Error::Unrepresentable);
     }
-    let data = laid.bytes;
-    put_frame(out, Kind::Report, &data[..laid.len])
+    let mut data: [u8; MAX_REPORT] = [0; MAX_REPORT];
+    let len = encode_data(&mut data, report);
+    put_frame(out, Kind::Report, &data[..len])
 }

@@ -1,6 +1,4 @@
-// A report as a frame's data: the bytes that it is written as, where it can be written.
-use crate::writable::is_writable;
-use engineering::Engineering;
+// A report that can be written, as a frame's data.
 use report::REPORT_HEAD;
 use report::REPORT_TRAILER;
 use report::Report;
@@ -11,22 +9,13 @@ ghost use mathlib.Core.Bool.{true};
 ghost use Prim.Native.Nat.{_+_, _≤_};
 ghost use lib.ListN.{length, take};
 ghost use Rattle.writer.specs.Put.{putIn};
-ghost use Rattle.writer.specs.Written.{written};
-ghost use Rattle.report_writer.specs.Writable.{writableIf, writable};
-ghost use Rattle.report_writer.specs.Data.{typeOf, frontOf, blockIf, reportData};
-ghost use Rattle.report_writer.specs.Laid.{laidOf};
+ghost use Rattle.report_writer.specs.Writable.{writable};
+ghost use Rattle.report_writer.specs.Data.{typeOf, frontOf, blockOf, reportData};
 
 // Data type, head byte and the nine basic bytes: what stands in front of the engineering block.
 const FRONT_LEN: usize = 11;
 // Most data bytes of a report: the front, two counts, nine energies of each, eight reserved bytes, the two at the end.
-const MAX_REPORT: usize = 41;
-
-// The data of a report at the front of an array, and how many bytes they are; all 0 where it cannot be written.
-pub struct LaidReport {
-    pub writable: bool,
-    pub bytes: [u8; MAX_REPORT],
-    pub len: usize,
-}
+pub const MAX_REPORT: usize = 41;
 
 // The data type, by whether there is an engineering block.
 fn data_type(has_engineering: bool) -> u8
@@ -71,15 +60,16 @@ fn put_first(data: &mut [u8], at: usize, s: &[u8], count: u8) -> usize
 }
 
 // Puts the engineering block after the front, if there is one, and answers where it ends.
-fn put_block(data: &mut [u8], has_engineering: bool, e: Engineering) -> usize
-    requires good { ⌜ writableIf «has_engineering» e ≡ true ⌝ }
+fn put_block(data: &mut [u8], report: Report) -> usize
+    requires good { ⌜ writable report ≡ true ⌝ }
     requires room { ⌜ 41 ≤ length (now «data») ⌝ }
-    ensures told { λ r. ⌜ r ≡ 11 + length (blockIf «has_engineering» e) ⌝ }
-    ensures left { λ _. ⌜ now («data» .exit) ≡ putIn (now («data» .entry)) 11 (blockIf «has_engineering» e) ⌝ }
+    ensures told { λ r. ⌜ r ≡ 11 + length (blockOf report) ⌝ }
+    ensures left { λ _. ⌜ now («data» .exit) ≡ putIn (now («data» .entry)) 11 (blockOf report) ⌝ }
 {
-    if !has_engineering {
+    if !report.has_engineering {
         return FRONT_LEN;
     }
+    let e = report.engineering;
     let counts = [e.moving_gates - 1, e.stationary_gates - 1];
     put(data, FRONT_LEN, &counts);
     let moving = e.moving_energy;
@@ -90,38 +80,17 @@ fn put_block(data: &mut [u8], has_engineering: bool, e: Engineering) -> usize
     put_first(data, stationary_end, &reserved, e.extra_len)
 }
 
-// Puts the data of the report, and answers how many bytes they are.
-fn put_data(data: &mut [u8], report: Report) -> usize
+// Encodes the report as its data at the front of an array, and answers how many bytes they are.
+pub(crate) fn encode_data(data: &mut [u8], report: Report) -> usize
     requires good { ⌜ writable report ≡ true ⌝ }
     requires room { ⌜ 41 ≤ length (now «data») ⌝ }
     ensures told { λ r. ⌜ r ≡ length (reportData report) ⌝ }
-    ensures left { λ _. ⌜ now («data» .exit) ≡ written (now («data» .entry)) (reportData report) ⌝ }
+    ensures left { λ r. ⌜ take r (now («data» .exit)) ≡ reportData report ⌝ }
 {
     let front = front(report);
     put(data, 0, &front);
-    let e = report.engineering;
-    let end = put_block(data, report.has_engineering, e);
+    let end = put_block(data, report);
     let trailer = REPORT_TRAILER;
     put(data, end, &trailer);
     end + 2
-}
-
-// The data of the report, laid into an array.
-pub fn lay(report: Report) -> LaidReport
-    ensures made { λ r. ⌜ r ≡ laidOf report ⌝ }
-{
-    let mut bytes: [u8; MAX_REPORT] = [0; MAX_REPORT];
-    if !is_writable(report) {
-        return LaidReport {
-            writable: false,
-            bytes,
-            len: 0,
-        };
-    }
-    let len = put_data(&mut bytes, report);
-    LaidReport {
-        writable: true,
-        bytes,
-        len,
-    }
 }

@@ -56,7 +56,7 @@ fn is_within(e: Engineering, least: u8, gates: u8, extra: u8) -> bool
 }
 
 // Whether the reader can give the report, with at most eight reserved bytes.
-pub fn is_writable(report: Report) -> bool
+pub(crate) fn is_writable(report: Report) -> bool
     ensures tested { λ r. ⌜ r ≡ writable report ⌝ }
 {
     let e = report.engineering;

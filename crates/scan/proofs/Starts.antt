@@ -6,14 +6,14 @@ use Rattle.wire.specs.declared.Kind.{Kind}
 use Rattle.wire.specs.declared.MaybeKind.the-variants.{Some, None}
 use Rattle.scan.specs.Scan.{at, hunting}
 use Rattle.scan.specs.declared.State.the-variants.{Header}
-use Rattle.scan.specs.Start.{went, dropping, startAs, startOf}
+use Rattle.scan.specs.Start.{continued, dropping, startAs, startOf}
 use Rattle.scan.specs.declared.stats.Stats.{Stats}
 
 module _ (st : Stats) (b : ℕ) where
-  pub start-some : (k : Kind) → startingWith b ≡ Some k → startOf st b ≡ went (at Header k 1 0 0) st
+  pub start-some : (k : Kind) → startingWith b ≡ Some k → startOf st b ≡ continued (at Header k 1 0 0) st
   unfolding startOf
   start-some k e = ap (startAs st) e
 
-  pub start-none : startingWith b ≡ None → startOf st b ≡ went hunting (dropping st 1)
+  pub start-none : startingWith b ≡ None → startOf st b ≡ continued hunting (dropping st 1)
   unfolding startOf
   start-none e = ap (startAs st) e

@@ -1,7 +1,7 @@
 -- What a parser stands for, by the numbers of its scan: document 01, point 5.
 --   OutOfRange limit c   "A parser built by hand with fields out of range (..)"
---   Settled limit c r    the scan c is handled as r: "as if reset came first" where it is out of range, else as it is
---   pendingOf c buf     the bytes of the frame in progress that a scan in range stands for, with its data bytes in buf
+--   OrReset limit c r    the scan c is handled as r: "as if reset came first" where it is out of range, else as it is
+--   pendingOf c buf      the bytes of the frame in progress that a scan in range stands for, with its data bytes in buf
 use mathlib.Core.Path.{_≡_}
 use mathlib.Core.Logic.{_≢_}
 use mathlib.Core.List.{List, [], _∷_, _++_}
@@ -31,7 +31,7 @@ pub data OutOfRange (limit : ℕ) (c : Scan) : Type 0 where
   data-position : c .state ≡ Data → ¬ (c .pos < c .len) → OutOfRange limit c
   tail-position : c .state ≡ Tail → c .pos ≢ c .len → OutOfRange limit c
 
-pub record Settled (limit : ℕ) (c r : Scan) : Type 0 where
+pub record OrReset (limit : ℕ) (c r : Scan) : Type 0 where
   pub out : OutOfRange limit c → r ≡ hunting
   pub inside : ¬ OutOfRange limit c → r ≡ c
 

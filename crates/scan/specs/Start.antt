@@ -1,5 +1,5 @@
 -- What the counters count, and a byte tried as the first of a header.
---   went c st          the frame in progress goes on, at c
+--   continued c st          the frame in progress goes on, at c
 --   abandoned st n     the counters after a frame in progress of n bytes was given up
 --   startOf st b       the byte b, tried as the first of a header
 --   counted b st       the counters after a whole frame, by whether it decodes
@@ -18,8 +18,8 @@ use Rattle.scan.specs.declared.stats.Ended.the-variants.{Nothing}
 use Rattle.scan.specs.declared.stats.Stepped.{Stepped}
 use Rattle.scan.specs.declared.stats.Scanned.{Scanned}
 
-abbrev pub went : Scan → Stats → Stepped
-went c st = record { scan = c; stats = st; ended = Nothing }
+abbrev pub continued : Scan → Stats → Stepped
+continued c st = record { scan = c; stats = st; ended = Nothing }
 
 -- n bytes more were dropped
 abbrev pub dropping : Stats → ℕ → Stats
@@ -40,8 +40,8 @@ abandoned st n = record {
 }
 
 abbrev pub startAs : Stats → MaybeKind → Stepped
-startAs st (Some k) = went (at Header k 1 0 0) st
-startAs st None = went hunting (dropping st 1)
+startAs st (Some k) = continued (at Header k 1 0 0) st
+startAs st None = continued hunting (dropping st 1)
 
 unfoldable pub startOf : Stats → ℕ → Stepped
 startOf st b = startAs st (startingWith b)

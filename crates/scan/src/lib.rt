@@ -13,8 +13,8 @@ use wire::Kind;
 ghost use mathlib.Core.Path.{_≡_};
 ghost use mathlib.Core.Bool.{true};
 ghost use Rattle.stream.specs.Length.{linkLimit};
-ghost use Rattle.scan.specs.Scan.{hunting, inOrder, settled, unfinishedAt, unfinishedBy};
-ghost use Rattle.scan.specs.Stands.{Settled};
+ghost use Rattle.scan.specs.Scan.{hunting, wellFormed, orReset, unfinishedAt, unfinishedBy};
+ghost use Rattle.scan.specs.Stands.{OrReset};
 
 // Where in a frame the parser is.
 pub enum State {
@@ -38,22 +38,9 @@ pub struct Scan {
 }
 
 impl Scan {
-    // A scan that looks for a header.
-    pub fn hunting() -> Self
-        ensures made { λ r. ⌜ r ≡ hunting ⌝ }
-    {
-        Scan {
-            state: State::Header,
-            kind: Kind::Report,
-            matched: 0,
-            len: 0,
-            pos: 0,
-        }
-    }
-
     // Whether no field is out of range.
-    fn in_order(self) -> bool
-        ensures told { λ r. ⌜ r ≡ inOrder linkLimit self ⌝ }
+    fn well_formed(self) -> bool
+        ensures told { λ r. ⌜ r ≡ wellFormed linkLimit self ⌝ }
     {
         let state = self.state;
         match state {
@@ -64,30 +51,39 @@ impl Scan {
             State::Tail => self.matched <= 3 && (in_range(self.len) && self.pos == self.len),
         }
     }
+}
 
-    // The scan, or, where a field is out of range, as if reset came first.
-    pub fn settled(self) -> Self
-        ensures settled { λ r. ⌜ r ≡ settled linkLimit self ⌝ }
-        ensures first { λ r. ⌜ Settled linkLimit self r ⌝ }
-    {
-        if self.in_order() {
-            self
-        } else {
-            Scan::hunting()
-        }
+// A scan that looks for a header.
+pub fn hunting() -> Scan
+    ensures made { λ r. ⌜ r ≡ hunting ⌝ }
+{
+    Scan {
+        state: State::Header,
+        kind: Kind::Report,
+        matched: 0,
+        len: 0,
+        pos: 0,
     }
+}
+
+// The scan, or, where a field is out of range, as if reset came first.
+pub fn or_reset(scan: Scan) -> Scan
+    ensures or_reset { λ r. ⌜ r ≡ orReset linkLimit scan ⌝ }
+    ensures first { λ r. ⌜ OrReset linkLimit scan r ⌝ }
+{
+    if scan.well_formed() { scan } else { hunting() }
 }
 
 // How many bytes of a frame are in progress.
 pub fn unfinished(scan: Scan) -> usize
     ensures told { λ r. ⌜ r ≡ unfinishedBy linkLimit scan ⌝ }
 {
-    progress(scan.settled())
+    progress(or_reset(scan))
 }
 
-// The same of a scan in order.
+// The same of a well-formed scan.
 fn progress(scan: Scan) -> usize
-    requires { ⌜ inOrder linkLimit scan ≡ true ⌝ }
+    requires { ⌜ wellFormed linkLimit scan ≡ true ⌝ }
     ensures told { λ r. ⌜ r ≡ unfinishedAt scan ⌝ }
 {
     let state = scan.state;

@@ -1,7 +1,7 @@
 -- The steps of a scan among the data bytes and in a tail follow the scanner's.
 use mathlib.Core.Path.{_≡_, refl, sym, ap, _∙_}
 use mathlib.Core.List.{List, [], _∷_, _++_, append-nil, append-assoc}
-use mathlib.Core.Bool.{Bool, true, false}
+use mathlib.Core.Bool.{Bool, true, false, cond}
 use Prim.Native.Nat.{ℕ, suc, _+_, _/_, _%_, _≤_, _<_}
 use native.Mathlib.Numerals.{add-one}
 use native.Mathlib.Omega.{arith}
@@ -18,16 +18,15 @@ use Rattle.stream.proofs.Scan.{opens, wholes}
 use Rattle.stream.proofs.Link.{link}
 use Rattle.wire.proofs.Families.{header-length, tail-length}
 use Rattle.stream.proofs.Steps.{data-opens, data-not-whole, tail-opens, tail-not-whole, tail-whole}
-use Rattle.scan.specs.Scan.{at, hunting, inOrder}
+use Rattle.scan.specs.Scan.{at, hunting, wellFormed}
 use Rattle.scan.specs.Stands.{pendingOf}
-use Rattle.scan.specs.Start.{went, abandoned, startOf}
-use Rattle.step.specs.Step.{orElse}
+use Rattle.scan.specs.Start.{continued, abandoned, startOf}
 use Rattle.scan.specs.declared.State.the-variants.{Data, Tail}
 use Rattle.scan.specs.declared.Scan.{Scan}
 use Rattle.scan.specs.declared.stats.Stats.{Stats}
 use Rattle.scan.specs.declared.stats.Ended.the-variants.{Frame}
 use Rattle.step.proofs.Follow.{Capped, Follows, follows-on, follows-end, follows-break}
-use Rattle.scan.proofs.Ranges.{and-intro, range-high}
+use Rattle.stream.proofs.Words.{range-true}
 use Rattle.step.proofs.HeadSteps.{word-grows}
 
 -- What is after a header and a length n, with them; and more after it.
@@ -42,7 +41,7 @@ module _ (limit : ℕ) (st : Stats) (cap : Capped st) (buf : List ℕ) (b : ℕ)
   -- Among the data bytes, and in the tail: after a length n in range, of which the two bytes are read again as n.
   module _ (k : Kind) (n : ℕ) (r : inRange limit n ≡ true) (limit-small : limit < 65536) where
     again : little (leBytes 2 n) ≡ n
-    again = omega (arith, range-high limit n r)
+    again = omega (arith, range-true limit n .0 r .1)
 
     -- What is read after such a length.
     opens-data : (d : List ℕ) → length d ≤ n → opens limit (sized k n d) ≡ true
@@ -66,21 +65,21 @@ module _ (limit : ℕ) (st : Stats) (cap : Capped st) (buf : List ℕ) (b : ℕ)
       fewer : length (take (suc p) (set buf p b)) ≤ n
       fewer = omega (arith, length-take (suc p) (set buf p b))
 
-      data-on : (c : Scan) → inOrder limit c ≡ true
+      data-on : (c : Scan) → wellFormed limit c ≡ true
           → pendingOf c (set buf p b) ≡ sized k n (take (suc p) (set buf p b))
-          → Follows limit (went c st) st (set buf p b) (Scanner.step (link limit) came b)
+          → Follows limit (continued c st) st (set buf p b) (Scanner.step (link limit) came b)
       data-on c i e = follows-on limit (set buf p b) c st came b cap i (e ∙ sym came-more)
           (rw came-more (opens-data (take (suc p) (set buf p b)) fewer))
           (rw came-more (whole-data (take (suc p) (set buf p b)) fewer))
 
       pub data-as : (x : Bool) → ltb (p + 1) n ≡ x
-          → Follows limit (orElse x (went (at Data k 0 n (p + 1)) st) (went (at Tail k 0 n n) st)) st (set buf p b)
-          (Scanner.step (link limit) came b)
-      unfolding inOrder pendingOf
-      data-as true e = data-on (at Data k 0 n (p + 1)) (and-intro r e) (rw (add-one p))
+          → Follows limit (cond x (continued (at Data k 0 n (p + 1)) st) (continued (at Tail k 0 n n) st)) st
+          (set buf p b) (Scanner.step (link limit) came b)
+      unfolding wellFormed pendingOf
+      data-as true e = data-on (at Data k 0 n (p + 1)) (rw (r, e)) (rw (add-one p))
       data-as false e =
           let z : n ≡ suc p = omega (arith, ltb-false (p + 1) n e) in
-          data-on (at Tail k 0 n n) (and-intro r (eq-eqb n n refl))
+          data-on (at Tail k 0 n n) (rw (r, eq-eqb n n refl))
           (ap (sized k n) (append-nil (take n (set buf p b)) ∙ ap (λ i. take i (set buf p b)) z))
 
     -- In the tail, after all the data bytes.
@@ -108,20 +107,20 @@ module _ (limit : ℕ) (st : Stats) (cap : Capped st) (buf : List ℕ) (b : ℕ)
           (word-grows (tail k) m b (omega (arith, tail-length k)) e)
 
       tail-on : b ≡ getD (tail k) m 0 → (x : Bool) → eqb m 3 ≡ x
-          → Follows limit (orElse x (record { scan = hunting; stats = st; ended = Frame k n })
-          (went (at Tail k (m + 1) n n) st)) st buf (Scanner.step (link limit) whole-data-came b)
-      unfolding inOrder pendingOf
+          → Follows limit (cond x (record { scan = hunting; stats = st; ended = Frame k n })
+          (continued (at Tail k (m + 1) n n) st)) st buf (Scanner.step (link limit) whole-data-came b)
+      unfolding wellFormed pendingOf
       tail-on e true q =
           let z : m ≡ 3 = eqb-true m 3 q in
           let all : take (suc m) (tail k) ≡ tail k = take-all (suc m) (tail k) (omega (arith, tail-length k)) in
           let grown : whole-data-came ++ (b ∷ []) ≡ sized k n (take n buf ++ tail k) =
           tail-grown e ∙ ap (λ x. sized k n (take n buf ++ x)) all in
-          follows-end limit buf k n st whole-data-came b cap (range-high limit n r) (sym grown)
+          follows-end limit buf k n st whole-data-came b cap (range-true limit n .0 r .1) (sym grown)
           (rw grown (tail-whole limit k (n % 256) (n / 256 % 256) (take n buf) tail-room in-range-again))
       tail-on e false q =
           let z : (m ≡ 3 → ⊥) = eqb-false m 3 q in
           follows-on limit buf (at Tail k (m + 1) n n) st whole-data-came b cap
-          (and-intro (le-leb (m + 1) 3 (omega arith)) (and-intro r (eq-eqb n n refl)))
+          (rw (le-leb (m + 1) 3 (omega arith), r, eq-eqb n n refl))
           (rw (add-one m) (sym (tail-grown e))) (tail-next ∙ eq-eqb b _ e)
           (rw tail-came (tail-not-whole limit k (n % 256) (n / 256 % 256) (take n buf) tail-room in-range-again m b
           (omega arith)))
@@ -137,8 +136,8 @@ module _ (limit : ℕ) (st : Stats) (cap : Capped st) (buf : List ℕ) (b : ℕ)
       )
 
       pub tail-as : (x : Bool) → eqb b (getD (tail k) m 0) ≡ x
-          → Follows limit (orElse x (orElse (eqb m 3) (record { scan = hunting; stats = st; ended = Frame k n })
-          (went (at Tail k (m + 1) n n) st)) (startOf (abandoned st (6 + n + m)) b)) st buf
+          → Follows limit (cond x (cond (eqb m 3) (record { scan = hunting; stats = st; ended = Frame k n })
+          (continued (at Tail k (m + 1) n n) st)) (startOf (abandoned st (6 + n + m)) b)) st buf
           (Scanner.step (link limit) whole-data-came b)
       tail-as true e = tail-on (eqb-true b _ e) (eqb m 3) refl
       tail-as false e =

@@ -2,11 +2,10 @@
 -- same pieces. One lemma for each thing that a byte can do.
 use mathlib.Core.Path.{_≡_, refl, sym, ap, _∙_}
 use mathlib.Core.List.{List, [], _∷_, _++_}
-use mathlib.Core.Bool.{Bool, true, false}
+use mathlib.Core.Bool.{true, false}
 use mathlib.Core.Option.{Option, none, some}
 use Prim.Native.Nat.{ℕ, _≤_, _<_}
 use native.Mathlib.Omega.{arith}
-use lib.Dec.{T}
 use lib.ListN.{length, take, getD}
 use Rattle.wire.specs.Number.{leBytes}
 use Rattle.wire.specs.Counter.{counterMax, bumped}
@@ -20,11 +19,11 @@ use Rattle.framing.specs.Tally.{sum, resynced, lost}
 use Rattle.framing.proofs.Scanner as Scanner
 use Rattle.framing.proofs.View.{step-whole, step-on, step-over}
 use Rattle.stream.proofs.Scan.{opens, wholes}
-use Rattle.stream.proofs.Link.{link}
+use Rattle.stream.proofs.Link.{link, is-open, not-open, is-whole, not-whole}
 use Rattle.stream.proofs.Steps.{starting-sound, start-opens, start-strays, start-not-whole}
-use Rattle.scan.specs.Scan.{at, hunting, inOrder}
+use Rattle.scan.specs.Scan.{at, hunting, wellFormed}
 use Rattle.scan.specs.Stands.{pendingOf}
-use Rattle.scan.specs.Start.{went, abandoned, startAs, startOf}
+use Rattle.scan.specs.Start.{continued, abandoned, startAs, startOf}
 use Rattle.scan.specs.declared.State.the-variants.{Header}
 use Rattle.scan.specs.declared.Scan.{Scan}
 use Rattle.scan.specs.declared.stats.Stats.{Stats}
@@ -32,7 +31,7 @@ use Rattle.scan.specs.declared.stats.Ended.{Ended}
 use Rattle.scan.specs.declared.stats.Ended.the-variants.{Frame, Nothing}
 use Rattle.scan.specs.declared.stats.Stepped.{Stepped}
 
--- No counter is past its most, which the counters' type says.
+-- No counter is past its largest number, which the counters' type says.
 pub record Capped (st : Stats) : Type 0 where
   pub frames : st .frames ≤ counterMax
   pub resyncs : st .resyncs ≤ counterMax
@@ -51,7 +50,7 @@ Fits limit Nothing = Unit {0}
 
 -- The step r, from the counters st and with the buffer left, does what the scanner's step x does.
 pub record Follows (limit : ℕ) (r : Stepped) (st : Stats) (buf : List ℕ) (x : Scanner.Step) : Type 0 where
-  pub order : inOrder limit (r .scan) ≡ true
+  pub order : wellFormed limit (r .scan) ≡ true
   pub pending : pendingOf (r .scan) buf ≡ x .pending
   pub ended : endedAs (r .ended) buf ≡ x .ended
   pub fits : Fits limit (r .ended)
@@ -61,18 +60,11 @@ pub record Follows (limit : ℕ) (r : Stepped) (st : Stats) (buf : List ℕ) (x 
   pub dropped : r .stats .dropped ≡ bumped (st .dropped) (sum lost (x .closed))
 
 module _ (limit : ℕ) (buf : List ℕ) where
-  -- Of a test that passes, and of one that fails.
-  passes : {b : Bool} → b ≡ true → T b
-  passes e = rw e tt
-
-  fails : {b : Bool} → b ≡ false → T b → ⊥
-  fails e h = rw e at h
-
   -- The byte goes on with what is pending.
-  pub follows-on : (c : Scan) (st : Stats) (p : List ℕ) (b : ℕ) → Capped st → inOrder limit c ≡ true
+  pub follows-on : (c : Scan) (st : Stats) (p : List ℕ) (b : ℕ) → Capped st → wellFormed limit c ≡ true
       → pendingOf c buf ≡ p ++ (b ∷ []) → opens limit (p ++ (b ∷ [])) ≡ true → wholes limit (p ++ (b ∷ [])) ≡ false
-      → Follows limit (went c st) st buf (Scanner.step (link limit) p b)
-  follows-on c st p b cap i e o w = rw (step-on (link limit) p b (passes o, fails w)) (record {
+      → Follows limit (continued c st) st buf (Scanner.step (link limit) p b)
+  follows-on c st p b cap i e o w = rw (step-on (link limit) p b (is-open limit _ o, not-whole limit _ w)) (record {
     order = i;
     pending = e;
     ended = refl;
@@ -87,8 +79,8 @@ module _ (limit : ℕ) (buf : List ℕ) where
   pub follows-end : (k : Kind) (n : ℕ) (st : Stats) (p : List ℕ) (b : ℕ) → Capped st → n ≤ limit
       → header k ++ (leBytes 2 n ++ (take n buf ++ tail k)) ≡ p ++ (b ∷ []) → wholes limit (p ++ (b ∷ [])) ≡ true
       → Follows limit (record { scan = hunting; stats = st; ended = Frame k n }) st buf (Scanner.step (link limit) p b)
-  unfolding inOrder pendingOf
-  follows-end k n st p b cap l e w = rw (step-whole (link limit) p b (passes w)) (record {
+  unfolding wellFormed pendingOf
+  follows-end k n st p b cap l e w = rw (step-whole (link limit) p b (is-whole limit _ w)) (record {
     order = refl;
     pending = refl;
     ended = ap some e;
@@ -106,10 +98,10 @@ module _ (limit : ℕ) (buf : List ℕ) where
 
   start-as : (st : Stats) (b : ℕ) (o : MaybeKind) → startingWith b ≡ o → Capped st
       → Follows limit (startAs st o) st buf (Scanner.step (link limit) [] b)
-  unfolding inOrder pendingOf
+  unfolding wellFormed pendingOf
   start-as st b (Some k) e cap = follows-on (at Header k 1 0 0) st [] b cap refl
       (first-pending k b (starting-sound b k e)) (start-opens limit b k e) (start-not-whole limit b)
-  start-as st b None e cap = rw (step-over (link limit) [] b (fails (start-strays limit b e))) (record {
+  start-as st b None e cap = rw (step-over (link limit) [] b (not-open limit _ (start-strays limit b e))) (record {
     order = refl;
     pending = refl;
     ended = refl;
@@ -155,6 +147,6 @@ module _ (limit : ℕ) (buf : List ℕ) where
   follows-break st [] b n cap l e o = absurd (omega arith)
   follows-break st (x ∷ p) b n cap l e o =
       let left = abandoned st (length (x ∷ p)) in
-      rw (step-over (link limit) (x ∷ p) b (fails o), ← e)
+      rw (step-over (link limit) (x ∷ p) b (not-open limit _ o), ← e)
       (after-broken st (x ∷ p) (startOf left b) (Scanner.step (link limit) [] b)
       (follows-start left b (abandoned-capped st (length (x ∷ p)) cap)))

@@ -1,7 +1,7 @@
 -- The steps of a scan in a header and in the length follow the scanner's.
 use mathlib.Core.Path.{_≡_, refl, sym, _∙_}
 use mathlib.Core.List.{List, [], _∷_, _++_, append-nil, append-assoc}
-use mathlib.Core.Bool.{Bool, true, false}
+use mathlib.Core.Bool.{Bool, true, false, cond}
 use Prim.Native.Nat.{ℕ, zero, suc, _+_, _*_, _/_, _%_, _≤_, _<_}
 use native.Mathlib.Numerals.{add-one}
 use native.Mathlib.Omega.{arith}
@@ -18,14 +18,14 @@ use Rattle.stream.proofs.Link.{link}
 use Rattle.wire.proofs.Families.{header-length}
 use Rattle.stream.proofs.Steps.{header-opens, header-not-whole, length-opens, length-not-whole}
 use Rattle.stream.proofs.Steps.{data-opens, data-not-whole}
-use Rattle.scan.specs.Scan.{at, inOrder}
+use Rattle.scan.specs.Scan.{at, wellFormed}
 use Rattle.scan.specs.Stands.{pendingOf}
-use Rattle.scan.specs.Start.{went, abandoned, startOf}
-use Rattle.step.specs.Step.{orElse, stepHeader, stepLen}
+use Rattle.scan.specs.Start.{continued, abandoned, startOf}
+use Rattle.step.specs.Step.{stepHeader, stepLen}
 use Rattle.scan.specs.declared.State.the-variants.{Header, Len, Data}
 use Rattle.scan.specs.declared.stats.Stats.{Stats}
 use Rattle.step.proofs.Follow.{Capped, Follows, follows-on, follows-start, follows-break}
-use Rattle.scan.proofs.Ranges.{and-intro, range-low}
+use Rattle.stream.proofs.Words.{range-true}
 
 -- A word's next byte, after what came of it, is what came of it and more.
 pub word-grows : (w : List ℕ) (m b : ℕ) → m < length w → b ≡ getD w m 0 → take m w ++ (b ∷ []) ≡ take (suc m) w
@@ -35,9 +35,9 @@ module _ (limit : ℕ) (st : Stats) (cap : Capped st) (buf : List ℕ) (b : ℕ)
   -- In a header, of which some bytes came.
   module _ (k : Kind) (m : ℕ) (l : m < 3) where
     header-on : b ≡ getD (header k) (suc m) 0 → (x : Bool) → eqb (suc m) 3 ≡ x
-        → Follows limit (orElse x (went (at Len k 0 0 0) st) (went (at Header k (suc m + 1) 0 0) st)) st buf
+        → Follows limit (cond x (continued (at Len k 0 0 0) st) (continued (at Header k (suc m + 1) 0 0) st)) st buf
         (Scanner.step (link limit) (take (suc m) (header k)) b)
-    unfolding inOrder pendingOf
+    unfolding wellFormed pendingOf
     header-on e true q =
         let z : suc m ≡ 3 = eqb-true (suc m) 3 q in
         let all : length (header k) ≤ suc (suc m) = omega (arith, header-length k) in
@@ -53,8 +53,8 @@ module _ (limit : ℕ) (st : Stats) (cap : Capped st) (buf : List ℕ) (b : ℕ)
         (header-opens limit k m b l ∙ eq-eqb b _ e) (header-not-whole limit k m b l)
 
     header-as : (x : Bool) → eqb b (getD (header k) (suc m) 0) ≡ x
-        → Follows limit (orElse x
-        (orElse (eqb (suc m) 3) (went (at Len k 0 0 0) st) (went (at Header k (suc m + 1) 0 0) st))
+        → Follows limit (cond x
+        (cond (eqb (suc m) 3) (continued (at Len k 0 0 0) st) (continued (at Header k (suc m + 1) 0 0) st))
         (startOf (abandoned st (suc m)) b)) st buf (Scanner.step (link limit) (take (suc m) (header k)) b)
     header-as true e = header-on (eqb-true b _ e) (eqb (suc m) 3) refl
     header-as false e = follows-break limit buf st (take (suc m) (header k)) b (suc m) cap (omega arith)
@@ -68,8 +68,8 @@ module _ (limit : ℕ) (st : Stats) (cap : Capped st) (buf : List ℕ) (b : ℕ)
 
   -- In the length: the first byte, and the second.
   first-follows : (k : Kind) → b < 256
-      → Follows limit (went (at Len k 1 b 0) st) st buf (Scanner.step (link limit) (header k ++ []) b)
-  unfolding inOrder pendingOf
+      → Follows limit (continued (at Len k 1 b 0) st) st buf (Scanner.step (link limit) (header k ++ []) b)
+  unfolding wellFormed pendingOf
   first-follows k l =
       follows-on limit buf (at Len k 1 b 0) st (header k ++ []) b cap (rw (le-leb b 255 (omega arith)))
       (rw (append-nil (header k))) (rw (append-nil (header k)) (length-opens limit k b))
@@ -88,12 +88,12 @@ module _ (limit : ℕ) (st : Stats) (cap : Capped st) (buf : List ℕ) (b : ℕ)
         rw (quotient, lo, hi)
 
     second-as : (x : Bool) → inRange limit (n + 256 * b) ≡ x
-        → Follows limit (orElse x (went (at Data k 0 (n + 256 * b) 0) st) (startOf (abandoned st 5) b)) st buf
+        → Follows limit (cond x (continued (at Data k 0 (n + 256 * b) 0) st) (startOf (abandoned st 5) b)) st buf
         (Scanner.step (link limit) (header k ++ (n ∷ [])) b)
-    unfolding inOrder pendingOf
+    unfolding wellFormed pendingOf
     second-as true e =
         follows-on limit buf (at Data k 0 (n + 256 * b) 0) st (header k ++ (n ∷ [])) b cap
-        (and-intro e (lt-ltb 0 (n + 256 * b) (omega (arith, range-low limit (n + 256 * b) e))))
+        (rw (e, lt-ltb 0 (n + 256 * b) (omega (arith, range-true limit (n + 256 * b) .0 e .0))))
         (rw (one-number, append-assoc (header k) (n ∷ []) (b ∷ [])))
         (rw (append-assoc (header k) (n ∷ []) (b ∷ [])) (data-opens limit k n b [] (omega arith) ∙ rw two-bytes e))
         (rw (append-assoc (header k) (n ∷ []) (b ∷ [])) (data-not-whole limit k n b [] (omega arith)))

@@ -1,7 +1,7 @@
 -- Laws about the definitions, which the proofs of the crates above cite.
--- A step leaves a scan in order.
-pub mod Onwards
--- What a byte does, by the tests that tell it.
+-- A step leaves a well-formed scan.
+pub mod StepOrder
+-- What a byte does in a state that is known.
 pub mod Turns
 -- The run of a slice, byte by byte and part by part.
 pub mod Runs
@@ -11,5 +11,5 @@ pub mod Follow
 pub mod HeadSteps
 pub mod BodySteps
 pub mod Steps
--- What a scan in order stands for waits for more.
+-- What a well-formed scan stands for waits for more.
 pub mod Waiting

@@ -7,10 +7,10 @@ use native.Mathlib.Numerals.{add-one}
 use native.Mathlib.Omega.{arith}
 use lib.ListN.{length, drop, getD, drop-of-length-le}
 use lib.Seq.{drop-cons}
-use Rattle.scan.specs.Scan.{inOrder}
+use Rattle.scan.specs.Scan.{wellFormed}
 use Rattle.step.specs.Step.{stepOf, stored}
 use Rattle.step.specs.Slice.{Run, runAt, oneMore, thenRun, runOf}
-use Rattle.step.specs.Phase.{behind, runFrom, onFrom, Onward}
+use Rattle.step.specs.Phase.{after, runFrom, onFrom, PartialRun}
 use Rattle.scan.specs.Start.{takingOf}
 use Rattle.wire.specs.declared.Kind.{Kind}
 use Rattle.scan.specs.declared.Scan.{Scan}
@@ -19,14 +19,14 @@ use Rattle.scan.specs.declared.stats.Ended.{Ended}
 use Rattle.scan.specs.declared.stats.Ended.the-variants.{Frame, Nothing}
 use Rattle.scan.specs.declared.stats.Stepped.{Stepped}
 use Rattle.scan.specs.declared.stats.Scanned.{Scanned}
-use Rattle.step.proofs.Onwards.{step-order}
+use Rattle.step.proofs.StepOrder.{step-order}
 
 -- The run r, after n bytes.
 abbrev counting : Run → ℕ → Run
 counting r n = runAt (r .scanned .scan) (r .scanned .stats) (r .scanned .ended) n (r .buf)
 
-behind-more : (i : ℕ) (r : Run) → behind (i + 1) r ≡ behind i (oneMore r)
-behind-more i r = ap (counting r) (omega arith)
+after-more : (i : ℕ) (r : Run) → after (i + 1) r ≡ after i (oneMore r)
+after-more i r = ap (counting r) (omega arith)
 
 module _ (limit : ℕ) (c : Scan) (st : Stats) (buf bs : List ℕ) where
   pub run-start : runFrom limit c st buf bs 0 ≡ runOf limit c st buf bs
@@ -41,14 +41,14 @@ module _ (limit : ℕ) (c : Scan) (st : Stats) (buf bs : List ℕ) where
     -- The byte number i, its step r and the buffer d that it leaves.
     module _ (r : Stepped) (d : List ℕ) (inner : i < length bs) (e : r ≡ stepOf limit c st (getD bs i 0))
         (f : d ≡ stored c buf (getD bs i 0)) where
-      pub run-next : behind i (thenRun (r .ended) r d (runOf limit (r .scan) (r .stats) d (drop (suc i) bs)))
+      pub run-next : after i (thenRun (r .ended) r d (runOf limit (r .scan) (r .stats) d (drop (suc i) bs)))
           ≡ runFrom limit c st buf bs i
       unfolding runFrom runOf
       run-next = rw (drop-cons bs i 0 inner, e, f)
 
       pub run-on : r .ended ≡ Nothing → runFrom limit (r .scan) (r .stats) d bs (i + 1) ≡ runFrom limit c st buf bs i
       unfolding runFrom
-      run-on q = behind-more i _ ∙ (rw add-one (rw q at run-next))
+      run-on q = after-more i _ ∙ (rw add-one (rw q at run-next))
 
       taking-rest : (x : Ended) → r .ended ≡ x → onFrom limit (takingOf r (i + 1)) d bs ≡ runFrom limit c st buf bs i
       unfolding onFrom
@@ -56,8 +56,9 @@ module _ (limit : ℕ) (c : Scan) (st : Stats) (buf bs : List ℕ) where
       taking-rest Nothing q = rw q (run-on q)
 
       -- One byte is a part.
-      pub step-onward : inOrder limit c ≡ true → getD bs i 0 < 256 → Onward limit c st buf bs i (takingOf r (i + 1)) d
-      step-onward o l = record {
+      pub step-partial : wellFormed limit c ≡ true → getD bs i 0 < 256
+          → PartialRun limit c st buf bs i (takingOf r (i + 1)) d
+      step-partial o l = record {
         forth = omega arith;
         inside = omega arith;
         order = rw e (step-order limit (getD bs i 0) c st o l);
@@ -67,25 +68,27 @@ module _ (limit : ℕ) (c : Scan) (st : Stats) (buf bs : List ℕ) where
 -- What is left of the bytes from number i on, run from here, comes to the whole run.
 pub record Left (limit : ℕ) (whole : Run) (c : Scan) (st : Stats) (buf bs : List ℕ) (i : ℕ) : Type 0 where
   pub inside : i ≤ length bs
-  pub order : inOrder limit c ≡ true
+  pub order : wellFormed limit c ≡ true
   pub rest : runFrom limit c st buf bs i ≡ whole
 
-module _ (limit : ℕ) (c : Scan) (st : Stats) (buf bs : List ℕ) where
-  pub left-start : inOrder limit c ≡ true → Left limit (runOf limit c st buf bs) c st buf bs 0
-  left-start o = record { inside = omega arith; order = o; rest = run-start limit c st buf bs }
+pub left-start : {limit : ℕ} {c : Scan} {st : Stats} {buf bs : List ℕ} → wellFormed limit c ≡ true
+    → Left limit (runOf limit c st buf bs) c st buf bs 0
+left-start {limit} {c} {st} {buf} {bs} o =
+    record { inside = omega arith; order = o; rest = run-start limit c st buf bs }
 
-  module _ (whole : Run) (i : ℕ) (h : Left limit whole c st buf bs i) where
-    pub left-end : length bs ≤ i → runAt c st Nothing i buf ≡ whole
-    left-end l = run-end limit c st buf bs i l ∙ h .rest
+module _ {limit : ℕ} {whole : Run} {c : Scan} {st : Stats} {buf bs : List ℕ} {i : ℕ}
+    (h : Left limit whole c st buf bs i) where
+  pub left-end : length bs ≤ i → runAt c st Nothing i buf ≡ whole
+  left-end l = run-end limit c st buf bs i l ∙ h .rest
 
-    -- The next part.
-    module _ (r : Scanned) (d : List ℕ) (f : Onward limit c st buf bs i r d) where
-      pub left-frame : (k : Kind) (n : ℕ) → r .ended ≡ Frame k n → record { scanned = r; buf = d } ≡ whole
-      unfolding onFrom
-      left-frame k n q =
-          let rest = rw q at (f .rest) in
-          rw q (rest ∙ h .rest)
+  -- The next part.
+  module _ {r : Scanned} {d : List ℕ} (f : PartialRun limit c st buf bs i r d) where
+    pub left-frame : {k : Kind} {n : ℕ} → r .ended ≡ Frame k n → record { scanned = r; buf = d } ≡ whole
+    unfolding onFrom
+    left-frame q =
+        let rest = rw q at (f .rest) in
+        rw q (rest ∙ h .rest)
 
-      pub left-on : r .ended ≡ Nothing → Left limit whole (r .scan) (r .stats) d bs (r .taken)
-      unfolding onFrom
-      left-on q = record { inside = f .inside; order = f .order; rest = (rw q at (f .rest)) ∙ h .rest }
+    pub left-on : r .ended ≡ Nothing → Left limit whole (r .scan) (r .stats) d bs (r .taken)
+    unfolding onFrom
+    left-on q = record { inside = f .inside; order = f .order; rest = (rw q at (f .rest)) ∙ h .rest }

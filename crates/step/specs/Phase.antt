@@ -1,29 +1,30 @@
 -- The parts of a slice's run: what a function that takes some of the bytes promises to the loop over them.
---   after i r                  the run r, with i bytes before it
---   runFrom most c st buf bs i  the run of the bytes bs from number i on, i of them taken before
---   onFrom most r buf bs        what r comes to: itself, where it ended a frame; else the run from where it stands
---   Stands most s c bs i        the scan c is in order and in the state s, and there is a byte number i
---   Onward                      r took bytes from number i on, and comes to what all from there come to
---   OnwardDry                   the same, where nothing is stored, whatever is in the buffer
+--   after i r                   the run r, with i bytes before it
+--   runFrom limit c st buf bs i the run of the bytes bs from number i on, i of them taken before
+--   onFrom limit r buf bs       what r comes to: itself, where it ended a frame; else the run from where it is
+--   AtState limit s c bs i      the scan c is well formed and in the state s, and there is a byte number i
+--   PartialRun                  r took bytes from number i on, and comes to what all from there come to
+--   DataRun                     r took the data bytes from number i on that are due or there: none outside the data
 use mathlib.Core.Path.{_≡_}
 use mathlib.Core.List.{List}
 use mathlib.Core.Bool.{true}
 use Prim.Native.Nat.{ℕ, _+_, _≤_, _<_}
 use lib.ListN.{length, drop}
-use Rattle.scan.specs.Scan.{inOrder}
+use Rattle.scan.specs.Scan.{wellFormed}
 use Rattle.step.specs.Slice.{Run, runAt, runOf}
 use Rattle.scan.specs.declared.State.{State}
+use Rattle.scan.specs.declared.State.the-variants.{Data}
 use Rattle.scan.specs.declared.Scan.{Scan}
 use Rattle.scan.specs.declared.stats.Stats.{Stats}
 use Rattle.scan.specs.declared.stats.Ended.{Ended}
 use Rattle.scan.specs.declared.stats.Ended.the-variants.{Frame, Nothing}
 use Rattle.scan.specs.declared.stats.Scanned.{Scanned}
 
-abbrev pub behind : ℕ → Run → Run
-behind i r = runAt (r .scanned .scan) (r .scanned .stats) (r .scanned .ended) (i + r .scanned .taken) (r .buf)
+abbrev pub after : ℕ → Run → Run
+after i r = runAt (r .scanned .scan) (r .scanned .stats) (r .scanned .ended) (i + r .scanned .taken) (r .buf)
 
 unfoldable pub runFrom : ℕ → Scan → Stats → List ℕ → List ℕ → ℕ → Run
-runFrom limit c st buf bs i = behind i (runOf limit c st buf (drop i bs))
+runFrom limit c st buf bs i = after i (runOf limit c st buf (drop i bs))
 
 abbrev pub onAs : Ended → Run → Run → Run
 onAs (Frame k n) r rest = r
@@ -33,17 +34,23 @@ unfoldable pub onFrom : ℕ → Scanned → List ℕ → List ℕ → Run
 onFrom limit r buf bs = onAs (r .ended) (record { scanned = r; buf = buf })
     (runFrom limit (r .scan) (r .stats) buf bs (r .taken))
 
-pub record Stands (limit : ℕ) (s : State) (c : Scan) (bs : List ℕ) (i : ℕ) : Type 0 where
-  pub order : inOrder limit c ≡ true
+pub record AtState (limit : ℕ) (s : State) (c : Scan) (bs : List ℕ) (i : ℕ) : Type 0 where
+  pub order : wellFormed limit c ≡ true
   pub state : c .state ≡ s
   pub inside : i < length bs
 
-pub record Onward (limit : ℕ) (c : Scan) (st : Stats) (buf bs : List ℕ) (i : ℕ) (r : Scanned) (left : List ℕ)
+pub record PartialRun (limit : ℕ) (c : Scan) (st : Stats) (buf bs : List ℕ) (i : ℕ) (r : Scanned) (left : List ℕ)
     : Type 0 where
   pub forth : i < r .taken
   pub inside : r .taken ≤ length bs
-  pub order : inOrder limit (r .scan) ≡ true
+  pub order : wellFormed limit (r .scan) ≡ true
   pub rest : onFrom limit r left bs ≡ runFrom limit c st buf bs i
 
-abbrev pub OnwardDry : ℕ → Scan → Stats → List ℕ → ℕ → Scanned → Type 0
-OnwardDry limit c st bs i r = (buf : List ℕ) → Onward limit c st buf bs i r buf
+pub record DataRun (limit : ℕ) (c : Scan) (st : Stats) (buf bs : List ℕ) (i : ℕ) (r : Scanned) (left : List ℕ)
+    : Type 0 where
+  pub forth : i ≤ r .taken
+  pub inside : r .taken ≤ length bs
+  pub order : wellFormed limit (r .scan) ≡ true
+  pub quiet : r .ended ≡ Nothing
+  pub past : r .taken < length bs → r .scan .state ≡ Data → ⊥
+  pub rest : runFrom limit (r .scan) (r .stats) left bs (r .taken) ≡ runFrom limit c st buf bs i

@@ -1,5 +1,5 @@
 -- What a slice of bytes does: their steps, one after the other, up to and with the first that ends a frame.
---   Run                      what was scanned, and the buffer that it left
+--   Run                       what was scanned, and the buffer that it left
 --   runOf limit c st buf bs   the run of the bytes bs from the scan c, the counters st and the buffer buf
 use mathlib.Core.List.{List, [], _∷_}
 use Prim.Native.Nat.{ℕ, suc}

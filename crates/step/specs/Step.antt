@@ -1,8 +1,8 @@
--- What one byte does to a scan in order, to the counters and to the buffer.
+-- What one byte does to a well-formed scan, to the counters and to the buffer.
 --   stepOf limit c st b the scan c and the counters st after the byte b, and whether it ended a frame
 --   stored c buf b     the buffer after it: a data byte is stored at the scan's position
 use mathlib.Core.List.{List}
-use mathlib.Core.Bool.{Bool, true, false}
+use mathlib.Core.Bool.{cond}
 use Prim.Native.Nat.{ℕ, _+_, _*_}
 use lib.Dec.{ltb, eqb}
 use lib.ListN.{getD, set}
@@ -10,7 +10,7 @@ use Rattle.wire.specs.Family.{header, tail}
 use Rattle.wire.specs.declared.Kind.{Kind}
 use Rattle.stream.specs.Length.{inRange}
 use Rattle.scan.specs.Scan.{at, hunting}
-use Rattle.scan.specs.Start.{went, abandoned, startOf}
+use Rattle.scan.specs.Start.{continued, abandoned, startOf}
 use Rattle.scan.specs.declared.State.{State}
 use Rattle.scan.specs.declared.State.the-variants.{Header, Len, Data, Tail}
 use Rattle.scan.specs.declared.Scan.{Scan}
@@ -18,29 +18,25 @@ use Rattle.scan.specs.declared.stats.Stats.{Stats}
 use Rattle.scan.specs.declared.stats.Ended.the-variants.{Frame}
 use Rattle.scan.specs.declared.stats.Stepped.{Stepped}
 
-abbrev pub orElse : Bool → Stepped → Stepped → Stepped
-orElse true r other = r
-orElse false r other = other
-
 -- the header's byte m came, or another
 abbrev pub stepHeader : Kind → ℕ → Stats → ℕ → Stepped
-stepHeader k m st b = orElse (eqb m 0) (startOf st b) (orElse (eqb b (getD (header k) m 0))
-    (orElse (eqb m 3) (went (at Len k 0 0 0) st) (went (at Header k (m + 1) 0 0) st))
+stepHeader k m st b = cond (eqb m 0) (startOf st b) (cond (eqb b (getD (header k) m 0))
+    (cond (eqb m 3) (continued (at Len k 0 0 0) st) (continued (at Header k (m + 1) 0 0) st))
     (startOf (abandoned st m) b))
 
 -- the first length byte; or the second, which makes a length in range, or is tried as a new start
 abbrev pub stepLen : ℕ → Kind → ℕ → ℕ → Stats → ℕ → Stepped
-stepLen limit k m n st b = orElse (eqb m 0) (went (at Len k 1 b 0) st) (orElse (inRange limit (n + 256 * b))
-    (went (at Data k 0 (n + 256 * b) 0) st)
+stepLen limit k m n st b = cond (eqb m 0) (continued (at Len k 1 b 0) st) (cond (inRange limit (n + 256 * b))
+    (continued (at Data k 0 (n + 256 * b) 0) st)
     (startOf (abandoned st 5) b))
 
 abbrev pub stepData : Kind → ℕ → ℕ → Stats → Stepped
-stepData k n p st = orElse (ltb (p + 1) n) (went (at Data k 0 n (p + 1)) st) (went (at Tail k 0 n n) st)
+stepData k n p st = cond (ltb (p + 1) n) (continued (at Data k 0 n (p + 1)) st) (continued (at Tail k 0 n n) st)
 
 -- the tail's byte m came, and may have ended the frame; or another, which alone is tried as a new start
 abbrev pub stepTail : Kind → ℕ → ℕ → Stats → ℕ → Stepped
-stepTail k m n st b = orElse (eqb b (getD (tail k) m 0))
-    (orElse (eqb m 3) (record { scan = hunting; stats = st; ended = Frame k n }) (went (at Tail k (m + 1) n n) st))
+stepTail k m n st b = cond (eqb b (getD (tail k) m 0))
+    (cond (eqb m 3) (record { scan = hunting; stats = st; ended = Frame k n }) (continued (at Tail k (m + 1) n n) st))
     (startOf (abandoned st (6 + n + m)) b)
 
 abbrev pub stepIn : ℕ → State → Kind → ℕ → ℕ → ℕ → Stats → ℕ → Stepped

@@ -2,74 +2,54 @@
 use mathlib.Core.Path.{_≡_, sym, ap, _∙_}
 use mathlib.Core.Logic.{_≢_, _↔_}
 use mathlib.Core.List.{List, [], _∷_, _++_}
-use Prim.Native.Nat.{ℕ, _/_, _%_, _<_}
+use Prim.Native.Nat.{ℕ, _<_}
 use native.Mathlib.Omega.{arith}
-use lib.Dec.{T}
 use lib.ListN.{length}
+use lib.Seq.{drop-at}
 use borrow.Author.Tests.{ne-eqb}
-use Rattle.wire.specs.Number.{little, leBytes}
+use Rattle.wire.specs.Number.{leBytes}
 use Rattle.wire.specs.Family.{header, tail, startingWith, framed}
+use Rattle.wire.specs.Bytes.{Bytes}
 use Rattle.wire.specs.declared.Kind.{Kind}
 use Rattle.wire.specs.declared.Kind.the-variants.{Report, Command}
 use Rattle.wire.specs.declared.MaybeKind.the-variants.{Some, None}
-use Rattle.engine.specs.Bytes.{Bytes}
+use Rattle.wire.proofs.Families.{header-length}
+use Rattle.wire.proofs.Bytes.{bytes-drop, leBytes-little}
 use Rattle.stream.specs.Length.{InRange}
 use Rattle.stream.specs.Open.{Open, Whole}
-use Rattle.stream.proofs.Scan.{opens}
 use Rattle.stream.proofs.Opens.{opens-sound, opens-complete}
 use Rattle.stream.proofs.Steps.{start-opens, start-strays}
 
-module _ (limit b : ℕ) where
-  begins-none : b ≢ 0xF4 → b ≢ 0xFD → startingWith b ≡ None
-  begins-none p q = rw (ne-eqb b 0xF4 p, ne-eqb b 0xFD q)
-
-  opens-first : (k : Kind) → startingWith b ≡ Some k → T (opens limit (b ∷ []))
-  opens-first k e = rw (start-opens limit b k e) tt
-
-  report-first : b ≡ 0xF4 → T (opens limit (b ∷ []))
-  report-first e = opens-first Report (rw e)
-
-  command-first : b ≡ 0xFD → T (opens limit (b ∷ []))
-  command-first e = opens-first Command (rw e)
-
-stray-tested : (limit b : ℕ) → (T (opens limit (b ∷ [])) → ⊥) ↔ (b ≢ 0xF4) × (b ≢ 0xFD)
-stray-tested limit b = (
-  λ no. (λ e. no (report-first limit b e), λ e. no (command-first limit b e)),
-  λ ne h. rw (start-strays limit b (begins-none limit b (ne .0) (ne .1))) at h,
-)
-
 pub stray-bytes : (limit b : ℕ) → (¬ Open limit (b ∷ [])) ↔ (b ≢ 0xF4) × (b ≢ 0xFD)
 stray-bytes limit b = (
-  (λ no. stray-tested limit b .0 (λ h. no (opens-sound limit (b ∷ []) h))),
-  (λ ne o. stray-tested limit b .1 ne (opens-complete limit (b ∷ []) o)),
+  λ no. (λ e. no (first Report (rw e)), λ e. no (first Command (rw e))),
+  λ ne o.
+      let none : startingWith b ≡ None = rw (ne-eqb b 0xF4 (ne .0), ne-eqb b 0xFD (ne .1)) in
+      rw (start-strays limit b none) at (opens-complete limit (b ∷ []) o),
 )
+  where
+    first : (k : Kind) → startingWith b ≡ Some k → Open limit (b ∷ [])
+    first k e = opens-sound limit (b ∷ []) (rw (start-opens limit b k e) tt)
 
 -- The two length bytes of a whole frame are those of the number of its data bytes.
-every-behind : (s t : List ℕ) → Bytes (s ++ t) → Bytes t
-every-behind [] t h = h
-every-behind (b ∷ s) t h = every-behind s t (h .1)
-
-two-again : (lo hi n : ℕ) → lo < 256 → hi < 256 → n ≡ little (lo ∷ hi ∷ []) → leBytes 2 n ≡ lo ∷ hi ∷ []
-two-again lo hi n l h e =
-    let quotient : n / 256 ≡ hi = omega arith in
-    let low : n % 256 ≡ lo = omega arith in
-    let high : hi % 256 ≡ hi = omega arith in
-    rw (quotient, low, high)
+length-bytes : (k : Kind) (lo hi : ℕ) (r : List ℕ) → Bytes (header k ++ (lo ∷ hi ∷ r)) → Bytes (lo ∷ hi ∷ [])
+length-bytes k lo hi r h =
+    let s : List ℕ = lo ∷ hi ∷ r in
+    let all = rw (drop-at (header k) s 4 (header-length k)) at (bytes-drop 4 (header k ++ s) h) in
+    (all .0, (all .1 .0, tt))
 
 pub whole-spelled : (limit : ℕ) (s : List ℕ) → Bytes s → (w : Whole limit s) → s ≡ framed (w .kind) (w .held)
 unfolding framed
 whole-spelled limit s bytes w =
-    let rest : List ℕ = w .lo ∷ w .hi ∷ (w .held ++ tail (w .kind)) in
-    let behind = every-behind (header (w .kind)) rest (rw (w .spelled) at bytes) in
-    let two = two-again (w .lo) (w .hi) (length (w .held)) (behind .0) (behind .1 .0) (w .all-there) in
-    w .spelled ∙ ap (λ l. header (w .kind) ++ (l ++ (w .held ++ tail (w .kind)))) (sym two)
+    let two = length-bytes (w .kind) (w .lo) (w .hi) (w .held ++ tail (w .kind)) (rw (w .spelled) at bytes) in
+    let again = ap (leBytes 2) (w .all-there) ∙ leBytes-little (w .lo ∷ w .hi ∷ []) two in
+    w .spelled ∙ ap (λ l. header (w .kind) ++ (l ++ (w .held ++ tail (w .kind)))) (sym again)
 
 -- So many data bytes two length bytes can say.
 pub whole-short : (limit : ℕ) (s : List ℕ) → Bytes s → (w : Whole limit s) → length (w .held) < 65536
 whole-short limit s bytes w =
-    let rest : List ℕ = w .lo ∷ w .hi ∷ (w .held ++ tail (w .kind)) in
-    let behind = every-behind (header (w .kind)) rest (rw (w .spelled) at bytes) in
-    omega (arith, w .all-there, behind .0, behind .1 .0)
+    let two = length-bytes (w .kind) (w .lo) (w .hi) (w .held ++ tail (w .kind)) (rw (w .spelled) at bytes) in
+    omega (arith, w .all-there, two .0, two .1 .0)
 
 pub whole-framed : (limit : ℕ) (s : List ℕ) → Bytes s → Whole limit s
     → (k : Kind) × (d : List ℕ) × InRange limit (length d) × (s ≡ framed k d)

@@ -50,9 +50,9 @@ delivers-as : (o : MaybeCheck) (f : List ℕ) → firstFailed (checksFor f) f �
 delivers-as (Maybe.Some c) f q e = e
 delivers-as Maybe.None f q e = passed-as (family f) f refl (rw q)
 
-pub decoded : (f : List ℕ) → decodes f ≡ true → isFrame (delivered f .0 .kind) ≡ true
+pub decodes-delivers : (f : List ℕ) → decodes f ≡ true → isFrame (delivered f .0 .kind) ≡ true
 unfolding decodes delivered checkedFrame
-decoded f e = delivers-as (firstFailed (checksFor f) f) f refl e
+decodes-delivers f e = delivers-as (firstFailed (checksFor f) f) f refl e
 
 abbrev pub decoding : Decoding Answer
 decoding = record {
@@ -61,7 +61,7 @@ decoding = record {
   decodes = decodes;
   answerOf = delivered;
   none-delivers = refl;
-  decoded = decoded;
+  decodes-delivers = decodes-delivers;
   undecoded = undecoded;
 }
 

@@ -14,8 +14,8 @@ use Rattle.refusal.specs.declared.MaybeCheck.{MaybeCheck}
 use Rattle.refusal.specs.declared.MaybeCheck.the-variants as Maybe
 use Rattle.ack.specs.Ack.{ackOf}
 use Rattle.frame.specs.Frame.{bodyChecks, frameOf, frameIf, decoded}
-use Rattle.frame.proofs.Framed.{framed-data}
-use Rattle.frame.proofs.Answers.{checked-framed}
+use Rattle.wire.proofs.Framed.{framed-data}
+use Rattle.frame.proofs.FrameChecked.{checked-framed}
 use Rattle.frame.specs.declared.Frame.{Frame}
 use Rattle.frame.specs.declared.CheckedFrame.{CheckedFrame}
 use Rattle.stream.specs.Deliver.{Answer, holds, decodes, countedIn, payloadOf, delivered}

@@ -1,25 +1,25 @@
--- Tests that compute, for open strings and for whole frames; their laws; the framing that they make.
+-- Tests that compute, for open strings and for whole frames.
 pub mod Scan
+-- The beginning of an open string is open.
 pub mod Laws
-pub mod Link
--- The decoding and the counting.
-pub mod Decoding
 -- What the tests say of a string after a header.
 pub mod Headers
 -- What the tests say of a string that begins with a word.
 pub mod Words
+-- What one more byte makes of a string that waits.
+pub mod Steps
 -- The tests are document 01's words, of open strings and of whole frames.
 pub mod Opens
 pub mod Wholes
--- What one more byte makes of a string that waits.
-pub mod Steps
+-- The framing of these words, which the tests decide.
+pub mod Link
+-- The decoding and the counting.
+pub mod Decoding
 -- What a whole frame delivers.
 pub mod Delivered
 -- Which bytes begin a frame, and what framing a whole frame's data gives.
 pub mod Begins
 -- Where a broken start ends.
 pub mod Traps
--- The link's protocol is that of the tests.
-pub mod Linked
 -- A byte F4 again and again.
 pub mod Repeated

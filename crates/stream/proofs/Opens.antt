@@ -1,33 +1,28 @@
 -- The test `opens` is document 01's words: a string passes exactly if it is open.
-use mathlib.Core.Path.{refl, ap, _∙_}
+use mathlib.Core.Path.{_≡_, refl}
 use mathlib.Core.Logic.{⊎-elim}
-use mathlib.Core.List.{List, [], _∷_, _++_, append-nil}
+use mathlib.Core.List.{List, [], _∷_, _++_, append-nil, append-assoc}
 use mathlib.Core.Bool.{true}
 use Prim.Native.Nat.{ℕ, _≤_}
 use native.Mathlib.Decide.{decLe}
 use native.Mathlib.Omega.{arith}
 use lib.Dec.{T}
-use lib.ListN.{length, take, drop, take-append-drop, drop-of-length-le}
-use lib.Seq.{length-take-le, drop-at}
+use lib.ListN.{length, take, drop, take-append-drop}
+use lib.Seq.{length-take-le}
 use Rattle.wire.specs.Number.{little}
 use Rattle.wire.specs.Family.{header, tail, startingWith}
 use Rattle.wire.specs.declared.Kind.{Kind}
 use Rattle.wire.specs.declared.Kind.the-variants.{Report}
 use Rattle.wire.specs.declared.MaybeKind.{MaybeKind}
 use Rattle.wire.specs.declared.MaybeKind.the-variants.{Some, None}
+use Rattle.framing.proofs.Tests.{T-and}
 use Rattle.stream.specs.Open.{Prefix, Open, in-header, in-length, in-data, in-tail}
 use Rattle.stream.specs.Length.{InRange, inRange}
-use Rattle.stream.proofs.Scan.{behind, nothing, readsLength, reads, readsAs, opens}
-use Rattle.stream.proofs.Laws.{both-right, opens-prefix}
+use Rattle.stream.proofs.Scan.{after, atEnd, readsLength, reads, readsAs, opens}
+use Rattle.stream.proofs.Laws.{opens-prefix}
 use Rattle.stream.proofs.Headers.{opens-header}
-use Rattle.stream.proofs.Words.{both-left, both, behind-sound, behind-within, nothing-sound}
-use Rattle.stream.proofs.Words.{range-sound, range-complete}
-
--- What may be cut short in the tail is a prefix of it.
-tail-sound : (k : Kind) (t : List ℕ) → T (behind true (tail k) nothing t) → Prefix t (tail k)
-tail-sound k t h = ⊎-elim (λ p. p)
-    (λ p. ([], rw append-nil (p .1 ∙ ap (λ r. tail k ++ r) (nothing-sound (p .0) (p .2)) ∙ append-nil (tail k))))
-    (behind-sound (tail k) nothing t h)
+use Rattle.stream.proofs.Words.{after-sound, tail-sound, range-true}
+use Rattle.stream.proofs.Steps.{data-opens, tail-open}
 
 module _ (limit : ℕ) (k : Kind) where
   -- After a length in range: data bytes, or all of them and a part of the tail.
@@ -47,13 +42,14 @@ module _ (limit : ℕ) (k : Kind) where
   length-sound (lo ∷ []) h = in-length k lo refl
   length-sound (lo ∷ hi ∷ r) h =
       let n : ℕ = little (lo ∷ hi ∷ []) in
-      data-sound lo hi r (range-sound limit n (both-left (inRange limit n) (behind true (tail k) nothing (drop n r)) h))
-      (tail-sound k (drop n r) (both-right (inRange limit n) (behind true (tail k) nothing (drop n r)) h))
+      let p = T-and (inRange limit n) (after true (tail k) atEnd (drop n r)) .0 h in
+      data-sound lo hi r (range-true limit n .0 (p .0))
+      (⊎-elim (λ q. q .1) (λ e. ([], rw append-nil e)) (tail-sound true k (drop n r) (p .1)))
 
   reads-sound : (s : List ℕ) → T (reads true limit k s) → Open limit s
   unfolding reads
-  reads-sound s h = ⊎-elim (λ p. in-header k p) (λ p. rw (p .1) (length-sound (p .0) (p .2)))
-      (behind-sound (header k) (readsLength true limit k) s h)
+  reads-sound s h = ⊎-elim (λ p. in-header k (p .1)) (λ p. rw (p .1) (length-sound (p .0) (p .2)))
+      (after-sound true (header k) (readsLength true limit k) s h)
 
 module _ (limit : ℕ) where
   as-sound : (o : MaybeKind) (s : List ℕ) → T (readsAs true limit o s) → Open limit s
@@ -72,17 +68,11 @@ module _ (limit : ℕ) where
       header-opens : (k : Kind) → T (opens limit (header k))
       header-opens k = rw (← append-nil (header k), opens-header limit k []) tt
 
-  tail-complete : (k : Kind) (lo hi : ℕ) (r : List ℕ) → InRange limit (little (lo ∷ hi ∷ []))
-      → Prefix (drop (little (lo ∷ hi ∷ [])) r) (tail k) → T (opens limit (header k ++ (lo ∷ hi ∷ r)))
-  tail-complete k lo hi r n p =
-      let m : ℕ = little (lo ∷ hi ∷ []) in
-      rw (opens-header limit k (lo ∷ hi ∷ r)) (both (inRange limit m) (behind true (tail k) nothing (drop m r))
-      (range-complete limit m n) (behind-within (tail k) nothing (drop m r) (p .0) tt (p .1)))
-
   pub opens-complete : (s : List ℕ) → Open limit s → T (opens limit s)
   opens-complete s (in-header k p) = header-complete k s p
   opens-complete s (in-length k b e) = rw (e, opens-header limit k (b ∷ [])) tt
-  opens-complete s (in-data k lo hi d n l e) =
-      rw e (tail-complete k lo hi d n (tail k, rw (drop-of-length-le d l)))
+  opens-complete s (in-data k lo hi d n l e) = rw (e, data-opens limit k lo hi d l, range-true limit _ .1 n) tt
+  -- A part of a tail passes, since all of it does.
   opens-complete s (in-tail k lo hi d t n l p e) =
-      rw e (tail-complete k lo hi (d ++ t) n (p .0, rw (drop-at d t (little (lo ∷ hi ∷ [])) l) (p .1)))
+      let whole : s ++ p .0 ≡ header k ++ (lo ∷ hi ∷ (d ++ tail k)) = rw (e, ← (p .1)) (simp append-assoc) in
+      opens-prefix limit s (p .0) (rw (whole, tail-open limit k lo hi d l (range-true limit _ .1 n)) tt)

@@ -1,18 +1,20 @@
 -- A byte F4 begins a frame, and does not go on with itself.
+use mathlib.Core.Path.{refl}
 use mathlib.Core.List.{[], _∷_}
 use Prim.Native.Nat.{ℕ}
-use lib.Dec.{T}
+use Rattle.stream.specs.Open.{Open, Whole}
 use Rattle.stream.proofs.Scan.{reads, opens, wholes}
+use Rattle.stream.proofs.Link.{is-open, not-open, not-whole}
 
 module _ (limit : ℕ) where
-  pub opens-once : T (opens limit (0xF4 ∷ []))
+  pub opens-once : Open limit (0xF4 ∷ [])
   unfolding opens reads
-  opens-once = tt
+  opens-once = is-open limit _ refl
 
-  pub not-whole : ¬ T (wholes limit (0xF4 ∷ []))
+  pub once-not-whole : ¬ Whole limit (0xF4 ∷ [])
   unfolding wholes reads
-  not-whole h = h
+  once-not-whole = not-whole limit _ refl
 
-  pub not-twice : ¬ T (opens limit (0xF4 ∷ 0xF4 ∷ []))
+  pub not-twice : ¬ Open limit (0xF4 ∷ 0xF4 ∷ [])
   unfolding opens reads
-  not-twice h = h
+  not-twice = not-open limit _ refl

@@ -1,7 +1,7 @@
 -- What one more byte makes of a string that waits: in a header, in a length, among the data bytes, in a tail.
 use mathlib.Core.Path.{_≡_, refl, ap, _∙_}
 use mathlib.Core.List.{List, [], _∷_, _++_}
-use mathlib.Core.Bool.{Bool, true, false, _&&_}
+use mathlib.Core.Bool.{Bool, true, false, _&&_, and-true, and-false, cond}
 use Prim.Native.Nat.{ℕ, zero, suc, _≤_, _<_}
 use native.Mathlib.Omega.{arith}
 use lib.Dec.{eqb}
@@ -9,59 +9,55 @@ use borrow.Author.Tests.{eq-eqb, eqb-true}
 use lib.ListN.{length, getD, take, drop, length-drop, drop-of-length-le}
 use lib.Seq.{drop-at}
 use Rattle.wire.specs.Number.{little}
-use Rattle.wire.specs.Family.{header, tail, startingWith, orElse}
+use Rattle.wire.specs.Family.{header, tail, startingWith}
 use Rattle.wire.proofs.Families.{tail-length}
 use Rattle.wire.specs.declared.Kind.{Kind}
 use Rattle.wire.specs.declared.Kind.the-variants.{Report, Command}
 use Rattle.wire.specs.declared.MaybeKind.{MaybeKind}
 use Rattle.wire.specs.declared.MaybeKind.the-variants.{Some, None}
 use Rattle.stream.specs.Length.{inRange}
-use Rattle.stream.proofs.Scan.{behind, nothing, readsLength, reads, readsAs, opens, wholes}
+use Rattle.stream.proofs.Scan.{after, atEnd, readsLength, reads, readsAs, opens, wholes}
 use Rattle.stream.proofs.Headers.{opens-header, wholes-header}
-
-and-true : (a : Bool) → a && true ≡ a
-and-true true = refl
-and-true false = refl
-
-and-false : (a : Bool) → a && false ≡ false
-and-false true = refl
-and-false false = refl
 
 -- A part of a word and one more byte: the byte must be the word's next.
 word-next : (cut : Bool) (w : List ℕ) (next : List ℕ → Bool) (m b : ℕ) → m < length w
-    → behind cut w next (take m w ++ (b ∷ [])) ≡ eqb b (getD w m 0) && behind cut (drop (suc m) w) next []
+    → after cut w next (take m w ++ (b ∷ [])) ≡ eqb b (getD w m 0) && after cut (drop (suc m) w) next []
 word-next cut [] next m b l = absurd (omega arith)
 word-next cut (x ∷ w) next zero b l = refl
 word-next cut (x ∷ w) next (suc m) b l = rw (eq-eqb x x refl) (word-next cut w next m b (omega arith))
 
 -- A word that may be cut may be missing; one that may not may not.
-word-cut : (w : List ℕ) (next : List ℕ → Bool) → next [] ≡ true → behind true w next [] ≡ true
+word-cut : (w : List ℕ) (next : List ℕ → Bool) → next [] ≡ true → after true w next [] ≡ true
 word-cut [] next e = e
 word-cut (x ∷ w) next e = refl
 
-word-missing : (w : List ℕ) (next : List ℕ → Bool) → (length w ≡ 0 → next [] ≡ false) → behind false w next [] ≡ false
+word-missing : (w : List ℕ) (next : List ℕ → Bool) → (length w ≡ 0 → next [] ≡ false) → after false w next [] ≡ false
 word-missing [] next e = e refl
 word-missing (x ∷ w) next e = refl
 
 module _ (w : List ℕ) (next : List ℕ → Bool) (m b : ℕ) (l : m < length w) where
-  next-opens : next [] ≡ true → behind true w next (take m w ++ (b ∷ [])) ≡ eqb b (getD w m 0)
+  next-opens : next [] ≡ true → after true w next (take m w ++ (b ∷ [])) ≡ eqb b (getD w m 0)
   next-opens e =
       word-next true w next m b l ∙ ap (λ x. eqb b (getD w m 0) && x) (word-cut (drop (suc m) w) next e)
       ∙ and-true (eqb b (getD w m 0))
 
-  next-missing : (length w ≡ suc m → next [] ≡ false) → behind false w next (take m w ++ (b ∷ [])) ≡ false
+  next-missing : (length w ≡ suc m → next [] ≡ false) → after false w next (take m w ++ (b ∷ [])) ≡ false
   next-missing e =
       word-next false w next m b l
       ∙ ap (λ x. eqb b (getD w m 0) && x)
       (word-missing (drop (suc m) w) next (λ z. e (omega (arith, length-drop (suc m) w))))
       ∙ and-false (eqb b (getD w m 0))
 
+tail-complete : (cut : Bool) (k : Kind) → after cut (tail k) atEnd (tail k) ≡ true
+tail-complete cut Report = refl
+tail-complete cut Command = refl
+
 -- The byte that announces a family is its header's first.
 pub starting-sound : (b : ℕ) (k : Kind) → startingWith b ≡ Some k → b ≡ getD (header k) 0 0
 starting-sound b k e = go (eqb b 0xF4) refl (eqb b 0xFD) refl e
   where
     go : (x : Bool) → eqb b 0xF4 ≡ x → (y : Bool) → eqb b 0xFD ≡ y
-        → orElse x (Some Report) (orElse y (Some Command) None) ≡ Some k → b ≡ getD (header k) 0 0
+        → cond x (Some Report) (cond y (Some Command) None) ≡ Some k → b ≡ getD (header k) 0 0
     go true p y q e = let z : Report ≡ k = cc in rw (← z) (eqb-true b 0xF4 p)
     go false p true q e = let z : Command ≡ k = cc in rw (← z) (eqb-true b 0xFD q)
     go false p false q e = let z : _≡_ {A = ℕ} 0 1 = cc in absurd (omega arith)
@@ -117,18 +113,18 @@ module _ (limit : ℕ) where
         → opens limit (header k ++ (lo ∷ hi ∷ d)) ≡ inRange limit (little (lo ∷ hi ∷ []))
     data-opens l =
         opens-header limit k (lo ∷ hi ∷ d)
-        ∙ rw (drop-of-length-le d l, word-cut (tail k) nothing refl) (and-true (inRange limit (little (lo ∷ hi ∷ []))))
+        ∙ rw (drop-of-length-le d l, word-cut (tail k) atEnd refl) (and-true (inRange limit (little (lo ∷ hi ∷ []))))
 
     pub data-not-whole : length d ≤ little (lo ∷ hi ∷ []) → wholes limit (header k ++ (lo ∷ hi ∷ d)) ≡ false
     data-not-whole l =
         wholes-header limit k (lo ∷ hi ∷ d)
-        ∙ rw (drop-of-length-le d l, word-missing (tail k) nothing (λ z. absurd (omega (arith, tail-length k))))
+        ∙ rw (drop-of-length-le d l, word-missing (tail k) atEnd (λ z. absurd (omega (arith, tail-length k))))
         (and-false (inRange limit (little (lo ∷ hi ∷ []))))
 
     module _ (l : length d ≡ little (lo ∷ hi ∷ [])) (r : inRange limit (little (lo ∷ hi ∷ [])) ≡ true) where
       -- What is after all the data bytes is read as the tail.
       tail-read : (cut : Bool) (t : List ℕ)
-          → readsLength cut limit k (lo ∷ hi ∷ (d ++ t)) ≡ behind cut (tail k) nothing t
+          → readsLength cut limit k (lo ∷ hi ∷ (d ++ t)) ≡ after cut (tail k) atEnd t
       tail-read cut t = rw (drop-at d t (little (lo ∷ hi ∷ [])) l, r)
 
       pub tail-opens : (m b : ℕ) → m < 4
@@ -136,19 +132,18 @@ module _ (limit : ℕ) where
       tail-opens m b u =
           opens-header limit k (lo ∷ hi ∷ (d ++ (take m (tail k) ++ (b ∷ []))))
           ∙ tail-read true (take m (tail k) ++ (b ∷ []))
-          ∙ next-opens (tail k) nothing m b (omega (arith, tail-length k)) refl
+          ∙ next-opens (tail k) atEnd m b (omega (arith, tail-length k)) refl
 
       pub tail-not-whole : (m b : ℕ) → m < 3
           → wholes limit (header k ++ (lo ∷ hi ∷ (d ++ (take m (tail k) ++ (b ∷ []))))) ≡ false
       tail-not-whole m b u =
           wholes-header limit k (lo ∷ hi ∷ (d ++ (take m (tail k) ++ (b ∷ []))))
           ∙ tail-read false (take m (tail k) ++ (b ∷ []))
-          ∙ next-missing (tail k) nothing m b (omega (arith, tail-length k))
+          ∙ next-missing (tail k) atEnd m b (omega (arith, tail-length k))
           (λ z. absurd (omega (arith, tail-length k)))
 
-      tail-complete : (k : Kind) → behind false (tail k) nothing (tail k) ≡ true
-      tail-complete Report = refl
-      tail-complete Command = refl
+      pub tail-open : opens limit (header k ++ (lo ∷ hi ∷ (d ++ tail k))) ≡ true
+      tail-open = opens-header limit k (lo ∷ hi ∷ (d ++ tail k)) ∙ tail-read true (tail k) ∙ tail-complete true k
 
       pub tail-whole : wholes limit (header k ++ (lo ∷ hi ∷ (d ++ tail k))) ≡ true
-      tail-whole = wholes-header limit k (lo ∷ hi ∷ (d ++ tail k)) ∙ tail-read false (tail k) ∙ tail-complete k
+      tail-whole = wholes-header limit k (lo ∷ hi ∷ (d ++ tail k)) ∙ tail-read false (tail k) ∙ tail-complete false k

@@ -10,11 +10,11 @@ use Rattle.refusal.specs.Check.{Passes}
 use Rattle.wire.specs.Number.{little}
 use Rattle.wire.specs.Family.{header, tail, framed}
 use Rattle.wire.specs.declared.Kind.{Kind}
+use Rattle.wire.specs.Bytes.{Bytes}
 use Rattle.frame.specs.Frame.{bodyChecks, decoded}
 use Rattle.framing.specs.Piece.{Piece, broken, spelled}
 use Rattle.framing.specs.Division.{Division, Divided, EndsAt, finished, cut}
-use Rattle.framing.specs.Tally.{resynced, lost, framed as inFrames, waiting, sum}
-use Rattle.engine.specs.Bytes.{Bytes}
+use Rattle.framing.specs.Tally.{resynced, lost, inFrames, waiting, sum}
 use Rattle.stream.specs.Length.{InRange}
 use Rattle.stream.specs.Open.{Open, Whole}
 use Rattle.stream.specs.Deliver.{Answer, decodes, payloadOf, delivered, Counter, adds}

@@ -33,13 +33,13 @@ countedIn Is.None i x = x
 countedIn Is.Report i x = x
 countedIn Is.Ack i x = record { kind = x .kind; report = x .report; ack = startingAt i (x .ack) }
 
-abbrev pub payloadIn : FrameKind → Frame → List ℕ → List ℕ
-payloadIn Is.None x s = []
-payloadIn Is.Report x s = []
-payloadIn Is.Ack x s = take (x .ack .payload .len) (drop (x .ack .payload .start) s)
+abbrev pub payloadBy : FrameKind → Frame → List ℕ → List ℕ
+payloadBy Is.None x s = []
+payloadBy Is.Report x s = []
+payloadBy Is.Ack x s = take (x .ack .payload .len) (drop (x .ack .payload .start) s)
 
 abbrev pub payloadOf : Frame → List ℕ → List ℕ
-payloadOf x s = payloadIn (x .kind) x s
+payloadOf x s = payloadBy (x .kind) x s
 
 -- "the frame that points 2 to 4 of the link read from the whole frame's bytes"; in the buffer a payload starts at 4
 unfoldable pub delivered : List ℕ → Answer

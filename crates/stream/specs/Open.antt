@@ -1,5 +1,5 @@
 -- Which strings of the LD2410's link are open and which are whole frames: document 01, "The division of a stream".
---   Prefix s t     s is a prefix of t
+--   Prefix s t      s is a prefix of t
 --   Open limit s    01's open, over the largest length that the stream takes, which 01 sets to 54
 --   Whole limit s   01's whole frame
 use mathlib.Core.Path.{_≡_}

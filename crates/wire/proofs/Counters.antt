@@ -1,4 +1,4 @@
--- Counters that stop at a most, whatever it is.
+-- Counters that stop at a max, whatever it is.
 use mathlib.Core.Path.{_≡_}
 use Prim.Native.Nat.{ℕ, _+_, _≤_, min}
 use native.Mathlib.Omega.{arith}

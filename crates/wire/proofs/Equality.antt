@@ -1,16 +1,11 @@
 -- Two byte strings are the same exactly if `sameBytes` says so.
 use mathlib.Core.Path.{_≡_, refl}
 use mathlib.Core.List.{List, [], _∷_}
-use mathlib.Core.Bool.{Bool, true, false, _&&_}
+use mathlib.Core.Bool.{Bool, true, false, and-eq-true-iff}
 use Prim.Native.Nat.{ℕ}
 use lib.Dec.{eqb}
 use borrow.Author.Tests.{eqb-true, eq-eqb}
 use Rattle.wire.specs.Equal.{sameBytes}
-
--- A conjunction is true where both sides are.
-pub both-true : (a b : Bool) → a && b ≡ true → (a ≡ true) × (b ≡ true)
-both-true true b e = (refl, e)
-both-true false b e = (e, let z : true ≡ false = cc in cc)
 
 pub same-refl : (s : List ℕ) → sameBytes s s ≡ true
 unfolding sameBytes
@@ -23,7 +18,7 @@ same-sound [] [] e = refl
 same-sound [] (b ∷ t) e = let z : false ≡ true = e in cc
 same-sound (a ∷ s) [] e = let z : false ≡ true = e in cc
 same-sound (a ∷ s) (b ∷ t) e =
-    let x = both-true (eqb a b) (sameBytes s t) e in
+    let x = and-eq-true-iff (eqb a b) (sameBytes s t) .0 e in
     let h : a ≡ b = eqb-true a b (x .0) in
     let t : s ≡ t = same-sound s t (x .1) in
     cc

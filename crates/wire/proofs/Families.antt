@@ -1,13 +1,13 @@
 -- The families' headers and tails, and which family four bytes are the header of.
 use mathlib.Core.Path.{_≡_, refl}
 use mathlib.Core.List.{List}
-use mathlib.Core.Bool.{Bool, true, false}
+use mathlib.Core.Bool.{Bool, true, false, cond}
 use Prim.Native.Nat.{ℕ}
 use native.Mathlib.Omega.{arith}
 use lib.ListN.{length}
 use Rattle.wire.specs.Equal.{sameBytes}
 use Rattle.wire.proofs.Equality.{same-sound}
-use Rattle.wire.specs.Family.{header, tail, orElse, headerOf}
+use Rattle.wire.specs.Family.{header, tail, headerOf}
 use Rattle.wire.specs.declared.Kind.{Kind}
 use Rattle.wire.specs.declared.Kind.the-variants.{Report, Command}
 use Rattle.wire.specs.declared.MaybeKind.the-variants.{Some, None}
@@ -37,7 +37,7 @@ module _ (s : List ℕ) where
 
   -- The family that is found has the header.
   found-sound : (k : Kind) (a b : Bool) → sameBytes s (header Report) ≡ a → sameBytes s (header Command) ≡ b
-      → orElse a (Some Report) (orElse b (Some Command) None) ≡ Some k → s ≡ header k
+      → cond a (Some Report) (cond b (Some Command) None) ≡ Some k → s ≡ header k
   found-sound k true b p q e = let z : Report ≡ k = cc in rw (← z) (same-sound s (header Report) p)
   found-sound k false true p q e = let z : Command ≡ k = cc in rw (← z) (same-sound s (header Command) q)
   found-sound k false false p q e = let z : _≡_ {A = ℕ} 0 1 = cc in absurd (omega arith)

@@ -1,8 +1,8 @@
 -- Numbers on the wire, at any width: the bytes are all there, and are the number; or some are missing.
 use mathlib.Core.Path.{_≡_, refl, sym, ap, _∙_}
 use mathlib.Core.List.{List, [], _∷_, _++_}
-use mathlib.Core.Bool.{Bool, true, false}
-use mathlib.Core.Option.{Option, none, some}
+use mathlib.Core.Bool.{Bool, true, false, cond}
+use mathlib.Core.Option.{none, some}
 use Prim.Native.Nat.{ℕ, _+_, _*_, _^_, _≤_, _<_}
 use native.Mathlib.Nat.{pow-suc}
 use native.Mathlib.Omega.{arith}
@@ -10,10 +10,13 @@ use lib.Dec.{leb}
 use lib.ListN.{length, getD, take, drop, length-take, length-drop}
 use lib.Seq.{drop-cons, take-add, drop-drop}
 use borrow.Author.Tests.{le-leb, lt-leb, leb-true, leb-false}
-use Rattle.wire.specs.Number.{little, ifThere, numberAt, answered, byteAt, le16At, le32At}
+use Rattle.wire.proofs.Conditions.{cond-true, cond-false}
+use Rattle.wire.specs.Number.{little, numberAt, answered, byteAt, le16At, le32At}
 use Rattle.wire.specs.declared.number.MaybeU8.{MaybeU8}
 use Rattle.wire.specs.declared.number.MaybeU8.the-variants as U8
+use Rattle.wire.specs.declared.number.MaybeU16.{MaybeU16}
 use Rattle.wire.specs.declared.number.MaybeU16.the-variants as U16
+use Rattle.wire.specs.declared.number.MaybeU32.{MaybeU32}
 use Rattle.wire.specs.declared.number.MaybeU32.the-variants as U32
 
 -- The n bytes of s from place i are all there, and are the number x.
@@ -50,109 +53,117 @@ there-one s i h = record { inside = omega arith; value = rw (drop-cons s i 0 h) 
 pub there-byte : (s : List ℕ) (i : ℕ) {x : ℕ} → There 1 s i x → x ≡ getD s i 0
 there-byte s i h = h .value ∙ sym (there-one s i (omega arith) .value)
 
--- What a number of n bytes is, where they are there, and where they are missing.
-module _ (n : ℕ) (s : List ℕ) (i : ℕ) where
-  pub number-there : {x : ℕ} → There n s i x → numberAt n s i ≡ some x
-  number-there h = rw (le-leb (i + n) (length s) (h .inside), h .value)
+-- The widths that the code reads: of each, how many bytes, the answer that it gives, and the answer's two variants.
+pub data Width : Type 0 where
+  one : Width
+  two : Width
+  four : Width
 
-  pub number-missing : length s < i + n → numberAt n s i ≡ none
-  number-missing h = rw (lt-leb (i + n) (length s) h)
+abbrev pub size : Width → ℕ
+size one = 1
+size two = 2
+size four = 4
 
-  some-there : (b : Bool) → leb (i + n) (length s) ≡ b → (x : ℕ)
-      → ifThere b (little (take n (drop i s))) ≡ some x → There n s i x
-  some-there true e x q = record { inside = leb-true (i + n) (length s) e; value = cc }
-  some-there false e x q = let z : _≡_ {A = ℕ} 0 1 = cc in absurd (omega arith)
+abbrev pub Answer : Width → Type 0
+Answer one = MaybeU8
+Answer two = MaybeU16
+Answer four = MaybeU32
 
-  none-missing : (b : Bool) → leb (i + n) (length s) ≡ b
-      → ifThere b (little (take n (drop i s))) ≡ none → length s < i + n
-  none-missing true e q = let z : _≡_ {A = ℕ} 0 1 = cc in absurd (omega arith)
-  none-missing false e q = leb-false (i + n) (length s) e
+abbrev pub there : (w : Width) → ℕ → Answer w
+there one x = U8.Some x
+there two x = U16.Some x
+there four x = U32.Some x
 
-  pub number-some : (x : ℕ) → numberAt n s i ≡ some x → There n s i x
-  number-some x e = some-there (leb (i + n) (length s)) refl x e
+abbrev pub missing : (w : Width) → Answer w
+missing one = U8.None
+missing two = U16.None
+missing four = U32.None
 
-  pub number-none : numberAt n s i ≡ none → length s < i + n
-  number-none e = none-missing (leb (i + n) (length s)) refl e
+abbrev pub readAt : (w : Width) → List ℕ → ℕ → Answer w
+readAt one s i = byteAt s i
+readAt two s i = le16At s i
+readAt four s i = le32At s i
 
--- The same of the code's answers, whose two variants are never equal.
-module _ {M : Type 0} (there : ℕ → M) (missing : M)
-    (there-injective : (x y : ℕ) → there x ≡ there y → x ≡ y) (there-apart : (x : ℕ) → there x ≡ missing → ⊥) where
-  answered-some : (o : Option ℕ) (x : ℕ) → answered there missing o ≡ there x → o ≡ some x
-  answered-some (some y) x e = ap some (there-injective y x e)
-  answered-some none x e = absurd (there-apart x (sym e))
+-- The two variants differ, and what the first holds is told by it.
+there-injective : (w : Width) (x y : ℕ) → there w x ≡ there w y → x ≡ y
+there-injective one x y e = cc
+there-injective two x y e = cc
+there-injective four x y e = cc
 
-  answered-none : (o : Option ℕ) → answered there missing o ≡ missing → o ≡ none
-  answered-none (some y) e = absurd (there-apart y e)
-  answered-none none e = refl
+there-apart : (w : Width) (x : ℕ) → there w x ≡ missing w → _≡_ {A = ℕ} 0 1
+there-apart one x e = cc
+there-apart two x e = cc
+there-apart four x e = cc
 
--- The three widths.
-u8-injective : (x y : ℕ) → U8.Some x ≡ U8.Some y → x ≡ y
-u8-injective x y e = cc
+-- The answer at a width is chosen by whether the bytes are all there.
+answered-cond : (w : Width) (t : Bool) (x : ℕ)
+    → answered (there w) (missing w) (cond t (some x) none) ≡ cond t (there w x) (missing w)
+answered-cond w true x = refl
+answered-cond w false x = refl
 
-u8-apart : (x : ℕ) → U8.Some x ≡ U8.None → ⊥
-u8-apart x e = let z : _≡_ {A = ℕ} 0 1 = cc in omega arith
+module _ (w : Width) (s : List ℕ) (i : ℕ) where
+  abbrev inside : Bool
+  inside = leb (i + size w) (length s)
 
-u16-injective : (x y : ℕ) → U16.Some x ≡ U16.Some y → x ≡ y
-u16-injective x y e = cc
+  abbrev value : ℕ
+  value = little (take (size w) (drop i s))
 
-u16-apart : (x : ℕ) → U16.Some x ≡ U16.None → ⊥
-u16-apart x e = let z : _≡_ {A = ℕ} 0 1 = cc in omega arith
+  read-answered : readAt w s i ≡ answered (there w) (missing w) (numberAt (size w) s i)
+  unfolding byteAt le16At le32At
+  read-answered = elim w [ one ↦ refl | two ↦ refl | four ↦ refl ]
 
-u32-injective : (x y : ℕ) → U32.Some x ≡ U32.Some y → x ≡ y
-u32-injective x y e = cc
+  read-cond : readAt w s i ≡ cond inside (there w value) (missing w)
+  read-cond = read-answered ∙ answered-cond w inside value
 
-u32-apart : (x : ℕ) → U32.Some x ≡ U32.None → ⊥
-u32-apart x e = let z : _≡_ {A = ℕ} 0 1 = cc in omega arith
+  -- What is read where they are there, and where some are missing; and what the answer says of them.
+  pub read-there : {x : ℕ} → There (size w) s i x → readAt w s i ≡ there w x
+  read-there h = read-cond ∙ rw (le-leb (i + size w) (length s) (h .inside), h .value)
 
-module _ (s : List ℕ) (i : ℕ) where
-  pub byte-there : {x : ℕ} → There 1 s i x → byteAt s i ≡ U8.Some x
-  unfolding byteAt
-  byte-there h = ap (answered U8.Some U8.None) (number-there 1 s i h)
+  pub read-missing : length s < i + size w → readAt w s i ≡ missing w
+  read-missing h = read-cond ∙ rw (lt-leb (i + size w) (length s) h)
 
-  pub byte-missing : length s < i + 1 → byteAt s i ≡ U8.None
-  unfolding byteAt
-  byte-missing h = ap (answered U8.Some U8.None) (number-missing 1 s i h)
+  pub read-some : {x : ℕ} → readAt w s i ≡ there w x → There (size w) s i x
+  read-some {x} e =
+      let told = sym read-cond ∙ e in
+      let t = cond-true inside (there w value) (missing w) told (λ q. there-apart w x (sym q)) in
+      let held : there w x ≡ there w value = rw t at (sym told) in
+      record { inside = leb-true (i + size w) (length s) t; value = there-injective w x value held }
 
-  pub byte-some : (x : ℕ) → byteAt s i ≡ U8.Some x → There 1 s i x
-  unfolding byteAt
-  byte-some x e = number-some 1 s i x (answered-some U8.Some U8.None u8-injective u8-apart (numberAt 1 s i) x e)
+  pub read-none : readAt w s i ≡ missing w → length s < i + size w
+  read-none e =
+      leb-false (i + size w) (length s)
+      (cond-false inside (there w value) (missing w) (sym read-cond ∙ e) (there-apart w value))
 
-  pub byte-none : byteAt s i ≡ U8.None → length s < i + 1
-  unfolding byteAt
-  byte-none e = number-none 1 s i (answered-none U8.Some U8.None u8-injective u8-apart (numberAt 1 s i) e)
+-- The same for a need, whose search finds the code's answer o and what it is: where a number among n bytes is missing,
+-- there are fewer than n; and where it is there, so are those before it.
+pub read-short : (w : Width) (s : List ℕ) (i n : ℕ) (o : Answer w) → o ≡ missing w → o ≡ readAt w s i
+    → leb (i + size w) n ≡ true → length s < n
+read-short w s i n o e q t =
+    let gone = read-none w s i (sym q ∙ e) in
+    let wanted = leb-true (i + size w) n t in
+    omega arith
 
-  pub le16-there : {x : ℕ} → There 2 s i x → le16At s i ≡ U16.Some x
-  unfolding le16At
-  le16-there h = ap (answered U16.Some U16.None) (number-there 2 s i h)
-
-  pub le16-missing : length s < i + 2 → le16At s i ≡ U16.None
-  unfolding le16At
-  le16-missing h = ap (answered U16.Some U16.None) (number-missing 2 s i h)
-
-  pub le16-some : (x : ℕ) → le16At s i ≡ U16.Some x → There 2 s i x
-  unfolding le16At
-  le16-some x e = number-some 2 s i x (answered-some U16.Some U16.None u16-injective u16-apart (numberAt 2 s i) x e)
-
-  pub le16-none : le16At s i ≡ U16.None → length s < i + 2
-  unfolding le16At
-  le16-none e = number-none 2 s i (answered-none U16.Some U16.None u16-injective u16-apart (numberAt 2 s i) e)
-
-  pub le32-there : {x : ℕ} → There 4 s i x → le32At s i ≡ U32.Some x
-  unfolding le32At
-  le32-there h = ap (answered U32.Some U32.None) (number-there 4 s i h)
-
-  pub le32-missing : length s < i + 4 → le32At s i ≡ U32.None
-  unfolding le32At
-  le32-missing h = ap (answered U32.Some U32.None) (number-missing 4 s i h)
-
-  pub le32-some : (x : ℕ) → le32At s i ≡ U32.Some x → There 4 s i x
-  unfolding le32At
-  le32-some x e = number-some 4 s i x (answered-some U32.Some U32.None u32-injective u32-apart (numberAt 4 s i) x e)
-
-  pub le32-none : le32At s i ≡ U32.None → length s < i + 4
-  unfolding le32At
-  le32-none e = number-none 4 s i (answered-none U32.Some U32.None u32-injective u32-apart (numberAt 4 s i) e)
+pub read-long : (w : Width) (s : List ℕ) (i n : ℕ) (o : Answer w) (x : ℕ) → o ≡ there w x → o ≡ readAt w s i
+    → leb n (i + size w) ≡ true → n ≤ length s
+read-long w s i n o x e q t =
+    let inside = read-some w s i (sym q ∙ e) .inside in
+    let wanted = leb-true n (i + size w) t in
+    omega arith
 
 -- A byte that was read is the one that stands there.
-pub byte-is : (s : List ℕ) (i : ℕ) {o : MaybeU8} {x : ℕ} → o ≡ byteAt s i → o ≡ U8.Some x → x ≡ getD s i 0
-byte-is s i e q = there-byte s i (byte-some s i _ (sym e ∙ q))
+pub byte-is : (s : List ℕ) (i : ℕ) {x : ℕ} → byteAt s i ≡ U8.Some x → x ≡ getD s i 0
+byte-is s i e = there-byte s i (read-some one s i e)
+
+-- A number of two halves is there where both are, and missing where one is.
+module _ (w v : Width) (halved : size v ≡ size w + size w) (s : List ℕ) (i : ℕ) where
+  pub first-missing : readAt w s i ≡ missing w → missing v ≡ readAt v s i
+  first-missing e = let gone = read-none w s i e in sym (read-missing v s i (omega arith))
+
+  pub second-missing : readAt w s (i + size w) ≡ missing w → missing v ≡ readAt v s i
+  second-missing e = let gone = read-none w s (i + size w) e in sym (read-missing v s i (omega arith))
+
+  pub halves-there : (x y : ℕ) → readAt w s i ≡ there w x → readAt w s (i + size w) ≡ there w y
+      → there v (x + 256 ^ size w * y) ≡ readAt v s i
+  halves-there x y e f =
+      let whole = there-append (size w) (size w) s i x y (read-some w s i e) (read-some w s (i + size w) f) in
+      sym (read-there v s i (rw halved whole))

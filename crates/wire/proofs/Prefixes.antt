@@ -32,20 +32,20 @@ pub pasted-nil : (d : List ℕ) (i : ℕ) (s : List ℕ) → length d ≤ i → 
 pasted-nil d i s h = over-nil d i s ∙ pasted-over d i s 0 (omega arith)
 
 -- As many bytes as fit are as many as `take` takes, and what is after them is what `drop` leaves.
-pub take-least : (m : ℕ) (s : List ℕ) → take (min m (length s)) s ≡ take m s
-take-least m [] = simp take-nil
-take-least zero (b ∷ s) = let z : min 0 (suc (length s)) ≡ 0 = omega arith in rw z
-take-least (suc m) (b ∷ s) = rw (min-suc m (length s), take-least m s)
+pub take-min : (m : ℕ) (s : List ℕ) → take (min m (length s)) s ≡ take m s
+take-min m [] = simp take-nil
+take-min zero (b ∷ s) = let z : min 0 (suc (length s)) ≡ 0 = omega arith in rw z
+take-min (suc m) (b ∷ s) = rw (min-suc m (length s), take-min m s)
 
-drop-least : (d : List ℕ) (n : ℕ) → drop (min (length d) n) d ≡ drop n d
-drop-least [] n = simp drop-nil
-drop-least (b ∷ d) zero = let z : min (suc (length d)) 0 ≡ 0 = omega arith in rw z
-drop-least (b ∷ d) (suc n) = rw (min-suc (length d) n, drop-least d n)
+drop-min : (d : List ℕ) (n : ℕ) → drop (min (length d) n) d ≡ drop n d
+drop-min [] n = simp drop-nil
+drop-min (b ∷ d) zero = let z : min (suc (length d)) 0 ≡ 0 = omega arith in rw z
+drop-min (b ∷ d) (suc n) = rw (min-suc (length d) n, drop-min d n)
 
 pub pasted-front : (d s : List ℕ) → pasted d 0 s ≡ prefixed d s
 unfolding over pasted prefixed
 pasted-front d s =
-    rw (sub-zero, zero-add, take-least (length d) s, drop-least d (length s))
+    rw (sub-zero, zero-add, take-min (length d) s, drop-min d (length s))
 
 drop-replicate : (m n : ℕ) → drop m (replicate {A = ℕ} n 0) ≡ replicate (n - m) 0
 drop-replicate zero n = rw sub-zero

@@ -1,6 +1,6 @@
 -- The parser's counters: "`bump` saturates".
 --   counterMax   where a counter stops
---   bumped c n    the counter c after n more
+--   bumped c n   the counter c after n more
 use Prim.Native.Nat.{ℕ, _+_, min}
 
 abbrev pub counterMax : ℕ

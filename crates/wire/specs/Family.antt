@@ -4,7 +4,7 @@
 --   headerOf s         the family whose header the bytes s are, if they are one
 --   framed k d         the frame of the family k with the data d: header, length, data, tail
 use mathlib.Core.List.{List, [], _∷_, _++_}
-use mathlib.Core.Bool.{Bool, true, false}
+use mathlib.Core.Bool.{cond}
 use Prim.Native.Nat.{ℕ}
 use lib.Dec.{eqb}
 use lib.ListN.{length}
@@ -25,16 +25,12 @@ abbrev pub tail : Kind → List ℕ
 tail Report = 0xF8 ∷ 0xF7 ∷ 0xF6 ∷ 0xF5 ∷ []
 tail Command = 0x04 ∷ 0x03 ∷ 0x02 ∷ 0x01 ∷ []
 
-abbrev pub orElse : Bool → MaybeKind → MaybeKind → MaybeKind
-orElse true k other = k
-orElse false k other = other
-
 abbrev pub startingWith : ℕ → MaybeKind
-startingWith b = orElse (eqb b 0xF4) (Some Report) (orElse (eqb b 0xFD) (Some Command) None)
+startingWith b = cond (eqb b 0xF4) (Some Report) (cond (eqb b 0xFD) (Some Command) None)
 
 unfoldable pub headerOf : List ℕ → MaybeKind
 headerOf s =
-    orElse (sameBytes s (header Report)) (Some Report) (orElse (sameBytes s (header Command)) (Some Command) None)
+    cond (sameBytes s (header Report)) (Some Report) (cond (sameBytes s (header Command)) (Some Command) None)
 
 unfoldable pub framed : Kind → List ℕ → List ℕ
 framed k d = header k ++ (leBytes 2 (length d) ++ (d ++ tail k))

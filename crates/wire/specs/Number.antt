@@ -4,7 +4,7 @@
 --   numberAt n s i   the number in the n bytes of s from place i, if they are all there
 --   byteAt, le16At, le32At   the same at one, two and four bytes, as the code's answers
 use mathlib.Core.List.{List, [], _∷_}
-use mathlib.Core.Bool.{Bool, true, false}
+use mathlib.Core.Bool.{cond}
 use mathlib.Core.Option.{Option, none, some}
 use Prim.Native.Nat.{ℕ, zero, suc, _+_, _*_, _/_, _%_}
 use lib.Dec.{leb}
@@ -24,12 +24,8 @@ abbrev pub leBytes : ℕ → ℕ → List ℕ
 leBytes zero x = []
 leBytes (suc n) x = x % 256 ∷ leBytes n (x / 256)
 
-abbrev pub ifThere : {A : Type 0} → Bool → A → Option A
-ifThere true a = some a
-ifThere false a = none
-
 abbrev pub numberAt : ℕ → List ℕ → ℕ → Option ℕ
-numberAt n s i = ifThere (leb (i + n) (length s)) (little (take n (drop i s)))
+numberAt n s i = cond (leb (i + n) (length s)) (some (little (take n (drop i s)))) none
 
 -- The code's answer for a number that may be missing, by its two variants.
 abbrev pub answered : {M : Type 0} → (ℕ → M) → M → Option ℕ → M

@@ -1,13 +1,13 @@
 // Byte strings: whether two are equal, and copies of one into another.
 //
 // Every function is total: a copy takes what fits.
-use crate::number::least;
+use crate::number::min;
 ghost use mathlib.Core.Path.{_≡_};
 ghost use Rattle.wire.specs.Prefix.{pasted, prefixed};
 ghost use Rattle.wire.specs.Equal.{sameBytes};
 
 // Whether two slices hold the same bytes.
-pub fn same(a: &[u8], b: &[u8]) -> bool
+pub fn bytes_eq(a: &[u8], b: &[u8]) -> bool
     ensures compared { λ r. ⌜ r ≡ sameBytes (now (a .entry)) (now (b .entry)) ⌝ }
 {
     if a.len() != b.len() {
@@ -30,7 +30,7 @@ pub fn copy_at(dst: &mut [u8], at: usize, src: &[u8])
     if dst.len() < at {
         return;
     }
-    let n = least(dst.len() - at, src.len());
+    let n = min(dst.len() - at, src.len());
     let mut i = 0;
     while i < n {
         dst[at + i] = src[i];

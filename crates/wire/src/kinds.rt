@@ -1,7 +1,7 @@
 // The two frame families: their headers and tails, and the family that bytes announce.
 use super::Kind;
 use super::MaybeKind;
-use crate::byte_string::same;
+use crate::byte_string::bytes_eq;
 ghost use mathlib.Core.Path.{_≡_};
 ghost use Rattle.wire.specs.Family.{header, tail, startingWith, headerOf};
 
@@ -14,26 +14,6 @@ impl Kind {
 
     pub const COMMAND_TAIL: [u8; 4] = [0x04, 0x03, 0x02, 0x01];
 
-    // The four bytes that begin a frame of this family.
-    pub fn header(self) -> [u8; 4]
-        ensures headed { λ r. ⌜ r ≡ header self ⌝ }
-    {
-        match self {
-            Kind::Report => Kind::REPORT_HEADER,
-            Kind::Command => Kind::COMMAND_HEADER,
-        }
-    }
-
-    // The four bytes that end it.
-    pub fn tail(self) -> [u8; 4]
-        ensures tailed { λ r. ⌜ r ≡ tail self ⌝ }
-    {
-        match self {
-            Kind::Report => Kind::REPORT_TAIL,
-            Kind::Command => Kind::COMMAND_TAIL,
-        }
-    }
-
     // The family whose header starts with `byte`, if any.
     pub fn starting_with(byte: u8) -> MaybeKind
         ensures found { λ r. ⌜ r ≡ startingWith byte ⌝ }
@@ -44,19 +24,39 @@ impl Kind {
             _ => MaybeKind::None,
         }
     }
+}
 
-    // The family whose header the four bytes are, if they are one.
-    pub fn of_header(bytes: &[u8]) -> MaybeKind
-        ensures found { λ r. ⌜ r ≡ headerOf (now (bytes .entry)) ⌝ }
-    {
-        let report = Kind::REPORT_HEADER;
-        if same(bytes, &report) {
-            return MaybeKind::Some(Kind::Report);
-        }
-        let command = Kind::COMMAND_HEADER;
-        if same(bytes, &command) {
-            return MaybeKind::Some(Kind::Command);
-        }
-        MaybeKind::None
+// The four bytes that begin a frame of the family.
+pub fn header_of(kind: Kind) -> [u8; 4]
+    ensures headed { λ r. ⌜ r ≡ header kind ⌝ }
+{
+    match kind {
+        Kind::Report => Kind::REPORT_HEADER,
+        Kind::Command => Kind::COMMAND_HEADER,
     }
+}
+
+// The four bytes that end it.
+pub fn tail_of(kind: Kind) -> [u8; 4]
+    ensures tailed { λ r. ⌜ r ≡ tail kind ⌝ }
+{
+    match kind {
+        Kind::Report => Kind::REPORT_TAIL,
+        Kind::Command => Kind::COMMAND_TAIL,
+    }
+}
+
+// The family whose header the four bytes are, if they are one.
+pub fn family_of(bytes: &[u8]) -> MaybeKind
+    ensures found { λ r. ⌜ r ≡ headerOf (now (bytes .entry)) ⌝ }
+{
+    let report = Kind::REPORT_HEADER;
+    if bytes_eq(bytes, &report) {
+        return MaybeKind::Some(Kind::Report);
+    }
+    let command = Kind::COMMAND_HEADER;
+    if bytes_eq(bytes, &command) {
+        return MaybeKind::Some(Kind::Command);
+    }
+    MaybeKind::None
 }

@@ -5,9 +5,12 @@ mod kinds;
 mod number;
 pub mod word;
 
+pub use byte_string::bytes_eq;
 pub use byte_string::copy_at;
 pub use byte_string::copy_prefix;
-pub use byte_string::same;
+pub use kinds::family_of;
+pub use kinds::header_of;
+pub use kinds::tail_of;
 pub use number::MaybeU8;
 pub use number::MaybeU16;
 pub use number::MaybeU32;
@@ -15,7 +18,7 @@ pub use number::bump;
 pub use number::byte_at;
 pub use number::le16;
 pub use number::le32;
-pub use number::least;
+pub use number::min;
 ghost use mathlib.Core.Path.{_≡_};
 ghost use Rattle.wire.specs.Prefix.{padded};
 ghost use Rattle.wire.specs.Gate.{gateValues};
@@ -56,15 +59,13 @@ pub struct GateValues {
     pub count: usize,
 }
 
-impl GateValues {
-    // The first `count` of the values, or all of them where there are fewer.
-    pub fn new(bytes: [u8; GATES], count: usize) -> Self
-        ensures made { λ r. ⌜ r ≡ gateValues bytes count ⌝ }
-    {
-        GateValues {
-            bytes,
-            count: least(count, GATES),
-        }
+// The first `count` of the values, or all of them where there are fewer.
+pub fn gate_values(bytes: [u8; GATES], count: usize) -> GateValues
+    ensures made { λ r. ⌜ r ≡ gateValues bytes count ⌝ }
+{
+    GateValues {
+        bytes,
+        count: min(count, GATES),
     }
 }
 

@@ -1,4 +1,4 @@
-// Numbers: read from bytes, little-endian, and counters that stop at their most.
+// Numbers: read from bytes, little-endian, and counters that stop at their max.
 //
 // Every function is total: what may be missing is a variant of its answer.
 ghost use mathlib.Core.Path.{_≡_};
@@ -75,7 +75,7 @@ pub fn bump(counter: u32, by: usize) -> u32
 }
 
 // The smaller of two numbers.
-pub fn least(a: usize, b: usize) -> usize
+pub fn min(a: usize, b: usize) -> usize
     ensures chosen { λ r. ⌜ r ≡ min a b ⌝ }
 {
     if a <= b { a } else { b }

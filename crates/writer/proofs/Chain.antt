@@ -1,14 +1,15 @@
--- Puts one after the other: each extends what is written at the buffer's front.
-use mathlib.Core.Path.{_≡_, refl, _∙_}
-use mathlib.Core.List.{List, [], _++_}
+-- Puts one after the other: each extends what is put before it.
+--   Put out i b n left   the bytes b were put at place i of the buffer out, up to place n, and it holds left then
+use mathlib.Core.Path.{_≡_, refl, sym, ap, _∙_}
+use mathlib.Core.List.{List, [], _++_, append-assoc, append-nil}
 use Prim.Native.Nat.{ℕ, _+_, _≤_}
 use native.Mathlib.Omega.{arith}
-use lib.ListN.{length, take, drop, length-append, length-drop}
-use lib.Seq.{take-length, take-append-seam, drop-append-add, drop-drop}
+use lib.ListN.{length, take, drop, length-append, length-drop, take-append-drop}
+use lib.Seq.{take-length, take-append-seam, drop-append-add, drop-drop, length-take-le}
 use Rattle.wire.specs.Prefix.{over}
 use Rattle.writer.specs.Put.{putIn}
 use Rattle.writer.specs.Written.{written}
-use Rattle.writer.proofs.PutPuts.{put-fits}
+use Rattle.writer.proofs.PutFits.{put-fits}
 
 -- Nothing is written yet.
 pub written-nil : (out : List ℕ) → written out [] ≡ out
@@ -19,14 +20,18 @@ pub written-length : (out f : List ℕ) → length f ≤ length out → length (
 unfolding written
 written-length out f h = simp (length-append, length-drop) (omega arith)
 
--- What is written stands at the front.
+-- What is written stands at the front, and what stands at the front is written.
 pub written-front : (out f : List ℕ) → take (length f) (written out f) ≡ f
 unfolding written
 written-front out f = take-append-seam f (drop (length f) out)
 
-over-behind : (out p b : List ℕ) → over (written out p) (length p) b (length b) ≡ written out (p ++ b)
+front-written : (out : List ℕ) (i : ℕ) → i ≤ length out → written out (take i out) ≡ out
+unfolding written
+front-written out i h = rw (length-take-le i out h) (take-append-drop i out)
+
+over-after : (out p b : List ℕ) → over (written out p) (length p) b (length b) ≡ written out (p ++ b)
 unfolding over written
-over-behind out p b =
+over-after out p b =
     rw (
       take-append-seam p (drop (length p) out),
       take-length b,
@@ -36,13 +41,54 @@ over-behind out p b =
     )
 
 -- A put after what is written extends it.
-pub put-behind : (out p b : List ℕ) → length p + length b ≤ length out
+pub put-after : (out p b : List ℕ) → length p + length b ≤ length out
     → putIn (written out p) (length p) b ≡ written out (p ++ b)
-put-behind out p b h =
+put-after out p b h =
     let l = written-length out p (omega arith) in
-    put-fits (written out p) (length p) b (omega arith) ∙ over-behind out p b
+    put-fits (written out p) (length p) b (omega arith) ∙ over-after out p b
 
--- The same of buffers in hand: `old` has p written, and the put at place n, which is after p, left `new`.
-pub put-extends : (out p b old new : List ℕ) (n : ℕ) → old ≡ written out p → n ≡ length p
-    → length p + length b ≤ length out → new ≡ putIn old n b → new ≡ written out (p ++ b)
-put-extends out p b old new n e q h k = k ∙ rw (e, q) (put-behind out p b h)
+pub record Put (out : List ℕ) (i : ℕ) (b : List ℕ) (n : ℕ) (left : List ℕ) : Type 0 where
+  pub ends : n ≡ i + length b
+  pub room : n ≤ length out
+  pub holds : left ≡ putIn out i b
+
+-- A put writes what stood before its place, and the bytes.
+put-front : (out : List ℕ) (i : ℕ) (b : List ℕ) → i + length b ≤ length out
+    → putIn out i b ≡ written out (take i out ++ b)
+put-front out i b h =
+    let n = length-take-le i out (omega arith) in
+    let e = put-after out (take i out) b (omega arith) in
+    rw (front-written out i (omega arith), n) at e
+
+-- Nothing, at any place.
+pub put-nil : (out : List ℕ) (i : ℕ) → i ≤ length out → Put out i [] i out
+put-nil out i h = record {
+  ends = omega arith;
+  room = h;
+  holds = sym (put-front out i [] (omega arith) ∙ rw append-nil (front-written out i h));
+}
+
+-- One more put, where the last ended.
+pub put-next : {out : List ℕ} {i : ℕ} {a : List ℕ} {n : ℕ} {mid : List ℕ} → Put out i a n mid
+    → (b : List ℕ) (m : ℕ) {left : List ℕ} → left ≡ putIn mid n b → m ≡ n + length b → m ≤ length out
+    → Put out i (a ++ b) m left
+put-next {out} {i} {a} {n} {mid} h b m e q l =
+    let t = length-take-le i out (omega arith) in
+    let k = length-append (take i out) a in
+    let s = length-append a b in
+    let after : n ≡ length (take i out ++ a) = omega arith in
+    let first : mid ≡ written out (take i out ++ a) = h .holds ∙ put-front out i a (omega arith) in
+    let both = rw (first, after) at e ∙ put-after out (take i out ++ a) b (omega arith) in
+    record {
+      ends = omega arith;
+      room = l;
+      holds = both ∙ ap (written out) (append-assoc (take i out) a b) ∙ sym (put-front out i (a ++ b) (omega arith));
+    }
+
+-- What is put at the front is written, and stands there.
+module _ {out f : List ℕ} {n : ℕ} {left : List ℕ} (h : Put out 0 f n left) where
+  pub put-written : left ≡ written out f
+  put-written = h .holds ∙ put-front out 0 f (omega arith)
+
+  pub put-taken : take n left ≡ f
+  put-taken = let e : n ≡ length f = omega arith in rw (e, put-written) (written-front out f)

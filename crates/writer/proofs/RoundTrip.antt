@@ -7,20 +7,27 @@ use mathlib.Core.Bool.{Bool, true, false}
 use Prim.Native.Nat.{ℕ, _≤_}
 use native.Mathlib.Omega.{arith}
 use lib.ListN.{length, take}
+use borrow.Author.Tests.{le-leb}
 use Rattle.wire.specs.Bytes.{Bytes}
+use Rattle.wire.specs.Family.{framed}
+use Rattle.wire.specs.declared.Kind.{Kind}
 use Rattle.refusal.specs.Refusal.{numberOf}
 use Rattle.refusal.specs.declared.Error.{Error}
-use Rattle.writer.specs.Written.{written, unless, numberOfWrite, WriteCauses}
+use Rattle.refusal.specs.declared.Error.the-variants.{Unrepresentable}
+use Rattle.writer.specs.Written.{written, unless, framable, numberOfWrite, WriteCauses}
 use Rattle.writer.specs.RoundTrip.{Codec, writes, leaves, Written, RoundTrip}
 use Rattle.writer.specs.declared.WriteResult.{WriteResult}
-use Rattle.writer.specs.declared.WriteResult.the-variants.{Ok}
+use Rattle.writer.specs.declared.WriteResult.the-variants.{Ok, Err}
 use Rattle.writer.proofs.Chain.{written-front}
-use Rattle.writer.proofs.Writers.{Wrote, wrote-all, wrote-whole, none-good, write-causes, shown}
+use Rattle.writer.proofs.Writers.{Wrote, Shown, wrote-refused, wrote-all, wrote-whole, none-good}
+use Rattle.writer.proofs.Writers.{write-causes, shown}
 
 -- What is owed for the value v, which is refused with e unless it is good. No buffer is spoken of.
 pub record Agreed {A : Type 0} (C : Codec A) (v : A) (e : Error) (good : Bool) : Type 0 where
   pub refused : C .refusal v ≡ unless good e
   pub number : C .number ≡ numberOf e
+  pub apart : numberOf e ≡ 4 → ⊥
+  pub some : numberOf e ≡ 0 → ⊥
   -- the frame of a good value is a byte string that may stand where the value was written
   pub bytes : good ≡ true → Bytes (C .frame v)
   pub written : good ≡ true → Written C v (C .frame v)
@@ -35,7 +42,7 @@ ShownRound C v good out r left =
     × ((left ≡ leaves C v out)
     × (WriteCauses (C .number) (good ≡ false) (C .frame v) (length out) r × RoundTrip C v))
 
-module _ {A : Type 0} (C : Codec A) (v : A) (e : Error) (good : Bool) (h : Agreed C v e good) where
+module _ {A : Type 0} {C : Codec A} {v : A} {e : Error} {good : Bool} (h : Agreed C v e good) where
   read-back : (out : List ℕ) (n : ℕ) → writes C v out ≡ Ok n → Written C v (take n (leaves C v out))
   read-back out n q =
       let a = wrote-all (C .frame v) out (leaves C v out) n (C .refusal v) (sym q, refl) in
@@ -62,18 +69,28 @@ module _ {A : Type 0} (C : Codec A) (v : A) (e : Error) (good : Bool) (h : Agree
   unread-bad true q u = let w = h .written q in absurd (u (C .frame v) (h .bytes q) (w .within) (w .read))
   unread-bad false q u = q
 
-  module _ (apart : numberOf e ≡ 4 → ⊥) (some : numberOf e ≡ 0 → ⊥) where
-    refused-exactly : (out : List ℕ) → (numberOfWrite (writes C v out) ≡ C .number) ↔ Unread
-    refused-exactly out =
-        let bad = write-causes e apart some (C .frame v) (length out) good .refused in
-        rw (h .refused, h .number) (λ z. bad-unread (bad .0 z), λ u. bad .1 (unread-bad good refl u))
+  refused-exactly : (out : List ℕ) → (numberOfWrite (writes C v out) ≡ C .number) ↔ Unread
+  refused-exactly out =
+      let bad = write-causes e (h .apart) (h .some) (C .frame v) (length out) good .refused in
+      rw (h .refused, h .number) (λ z. bad-unread (bad .0 z), λ u. bad .1 (unread-bad good refl u))
 
-    -- They agree on the value.
-    pub round-trip : RoundTrip C v
-    round-trip = record { back = read-back; exact = refused-exactly; again = written-again }
+  -- They agree on the value.
+  pub round-trip : RoundTrip C v
+  round-trip = record { back = read-back; exact = refused-exactly; again = written-again }
 
-    pub shown-round : (out left : List ℕ) {r : WriteResult} → Wrote (C .refusal v) (C .frame v) out r left
-        → ShownRound C v good out r left
-    shown-round out left w =
-        let x = shown e apart some good (C .frame v) out left (rw (h .refused) at w) in
-        (w .0, (w .1, (rw (h .number) (x .1 .1), round-trip)))
+  round-shown : (out left : List ℕ) {r : WriteResult} → Wrote (unless good e) (C .frame v) out r left
+      → ShownRound C v good out r left
+  round-shown out left w =
+      let x = shown e (h .apart) (h .some) good (C .frame v) out left w in
+      (rw (h .refused) (w .0), (rw (h .refused) (w .1), (rw (h .number) (x .1 .1), round-trip)))
+
+  -- The two ways of a writer: the value is refused; or it is good, and the data b, which are its own, are framed.
+  pub round-refused : (out : List ℕ) → good ≡ false → ShownRound C v good out (Err e) out
+  round-refused out q = round-shown out out (rw q (wrote-refused (C .frame v) out e))
+
+  pub round-framed : (k : Kind) (d out b left : List ℕ) {r : WriteResult} → C .frame v ≡ framed k d → length d ≤ 65535
+      → good ≡ true → b ≡ d → Shown Unrepresentable (framable b) (framed k b) out r left
+      → ShownRound C v good out r left
+  round-framed k d out b left f l g q s =
+      let x = rw (q, le-leb (length d) 65535 l) at s in
+      round-shown out left (rw (g, f) (x .0, x .1 .0))

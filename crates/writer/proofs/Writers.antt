@@ -13,26 +13,26 @@ use Rattle.refusal.specs.Refusal.{numberOf, neededOf}
 use Rattle.refusal.specs.declared.Error.{Error}
 use Rattle.refusal.specs.declared.Error.the-variants.{InvalidFormat, Unsupported, Hardware, BufferTooSmall}
 use Rattle.refusal.specs.declared.Error.the-variants.{UnknownCommand, Unrepresentable}
-use Rattle.writer.specs.Written.{written, unless, answered, changed, answerOf, bufferAfter, WriteCauses}
+use Rattle.writer.specs.Written.{written, unless, answered, changed, writeResult, bufferAfter, WriteCauses}
 use Rattle.writer.specs.declared.WriteResult.{WriteResult}
 use Rattle.writer.specs.declared.WriteResult.the-variants.{Ok, Err}
 
 -- The answer r and the buffer left are those of a writer of the frame f into out, whose value w refuses, if it does.
 abbrev pub Wrote : Option Error → List ℕ → List ℕ → WriteResult → List ℕ → Type 0
-Wrote w f out r left = (r ≡ answerOf w f (length out)) × (left ≡ bufferAfter w f out)
+Wrote w f out r left = (r ≡ writeResult w f (length out)) × (left ≡ bufferAfter w f out)
 
 module _ (f out : List ℕ) where
   pub wrote-refused : (e : Error) → Wrote (some e) f out (Err e) out
-  unfolding answerOf bufferAfter
+  unfolding writeResult bufferAfter
   wrote-refused e = (refl, refl)
 
   pub wrote-short : (n : ℕ) → n ≡ length f → length out < n → Wrote none f out (Err (BufferTooSmall n)) out
-  unfolding answerOf bufferAfter
+  unfolding writeResult bufferAfter
   wrote-short n q h = let e = lt-leb (length f) (length out) (omega arith) in (rw (q, e), rw e)
 
   pub wrote-whole : (n : ℕ) (left : List ℕ) → n ≡ length f → n ≤ length out → left ≡ written out f
       → Wrote none f out (Ok n) left
-  unfolding answerOf bufferAfter
+  unfolding writeResult bufferAfter
   wrote-whole n left q h w = let e = le-leb (length f) (length out) (omega arith) in (rw (q, e), rw e w)
 
 -- A value that is not refused passed its test.
@@ -55,7 +55,7 @@ module _ (f out left : List ℕ) (n : ℕ) where
   all-by-length false q t l = let z : _≡_ {A = ℕ} 0 1 = cc in absurd (omega arith)
 
   pub wrote-all : (w : Option Error) → Wrote w f out (Ok n) left → WroteAll w f out left n
-  unfolding answerOf bufferAfter
+  unfolding writeResult bufferAfter
   wrote-all none h = all-by-length (leb (length f) (length out)) refl (h .0) (h .1)
   wrote-all (some e) h = let t = h .0 in let z : _≡_ {A = ℕ} 0 1 = cc in absurd (omega arith)
 
@@ -105,15 +105,15 @@ module _ (e : Error) (e-apart : numberOf e ≡ 4 → ⊥) (e-some : numberOf e �
   caused-good true h = caused-whole (leb-true (length f) n h)
   caused-good false h = caused-short (leb-false (length f) n h)
 
-  pub write-causes : (good : Bool) → Caused good (answerOf (unless good e) f n)
-  unfolding answerOf
+  pub write-causes : (good : Bool) → Caused good (writeResult (unless good e) f n)
+  unfolding writeResult
   write-causes true = caused-good (leb (length f) n) refl
   write-causes false = caused-bad
 
 -- What a writer with such a contract has to show: its answer, its buffer, and the causes, which follow.
 abbrev pub Shown : Error → Bool → List ℕ → List ℕ → WriteResult → List ℕ → Type 0
 Shown e good f out r left =
-    (r ≡ answerOf (unless good e) f (length out))
+    (r ≡ writeResult (unless good e) f (length out))
     × ((left ≡ bufferAfter (unless good e) f out) × WriteCauses (numberOf e) (good ≡ false) f (length out) r)
 
 pub shown : (e : Error) → (numberOf e ≡ 4 → ⊥) → (numberOf e ≡ 0 → ⊥) → (good : Bool) (f out left : List ℕ)

@@ -1,7 +1,7 @@
 -- Bytes put at a place of a buffer: all of them or none.
---   fits out at b     the bytes b have room in the buffer out from place at on
---   placed out at b   the answer: the place after them, or that they do not fit
---   putIn out at b    the buffer left: b over its bytes from place at on, or as it was
+--   hasRoom out at b   the bytes b have room in the buffer out from place at on
+--   placed out at b    the answer: the place after them, or that they do not fit
+--   putIn out at b     the buffer left: b over its bytes from place at on, or as it was
 use mathlib.Core.List.{List}
 use mathlib.Core.Bool.{Bool, cond}
 use Prim.Native.Nat.{ℕ, _+_}
@@ -11,11 +11,11 @@ use Rattle.wire.specs.Prefix.{over}
 use Rattle.writer.specs.declared.puts.Placed.{Placed}
 use Rattle.writer.specs.declared.puts.Placed.the-variants.{End, TooSmall}
 
-abbrev pub fits : List ℕ → ℕ → List ℕ → Bool
-fits out at b = leb (at + length b) (length out)
+abbrev pub hasRoom : List ℕ → ℕ → List ℕ → Bool
+hasRoom out at b = leb (at + length b) (length out)
 
 unfoldable pub placed : List ℕ → ℕ → List ℕ → Placed
-placed out at b = cond (fits out at b) (End (at + length b)) TooSmall
+placed out at b = cond (hasRoom out at b) (End (at + length b)) TooSmall
 
 unfoldable pub putIn : List ℕ → ℕ → List ℕ → List ℕ
-putIn out at b = cond (fits out at b) (over out at b (length b)) out
+putIn out at b = cond (hasRoom out at b) (over out at b (length b)) out

@@ -12,7 +12,7 @@ use Prim.Native.Nat.{ℕ, _≤_}
 use lib.ListN.{length, take}
 use Rattle.wire.specs.Bytes.{Bytes}
 use Rattle.refusal.specs.declared.Error.{Error}
-use Rattle.writer.specs.Written.{written, answerOf, bufferAfter, numberOfWrite}
+use Rattle.writer.specs.Written.{written, writeResult, bufferAfter, numberOfWrite}
 use Rattle.writer.specs.declared.WriteResult.{WriteResult}
 use Rattle.writer.specs.declared.WriteResult.the-variants.{Ok}
 
@@ -28,7 +28,7 @@ pub record Codec (A : Type 0) : Type 1 where
   pub Kept : List ℕ → Type 0
 
 abbrev pub writes : {A : Type 0} → Codec A → A → List ℕ → WriteResult
-writes C v out = answerOf (C .refusal v) (C .frame v) (length out)
+writes C v out = writeResult (C .refusal v) (C .frame v) (length out)
 
 abbrev pub leaves : {A : Type 0} → Codec A → A → List ℕ → List ℕ
 leaves C v out = bufferAfter (C .refusal v) (C .frame v) out

@@ -3,14 +3,14 @@
 --   unless b e                the refusal e, unless the test b holds
 --   refusalFor w f n          why f is not written into n bytes, if it is not: the refusal w of the value, if there is
 --                             one; else 4, with the bytes needed, where f is longer
---   answerOf w f n            the answer: the bytes written, or that refusal
+--   writeResult w f n         the answer: the bytes written, or that refusal
 --   bufferAfter w f out       the buffer left: with f written, or as it was
 --   returnedWrite r           what the answer r returns, by document 01's table
 --   numberOfWrite r           its number, 0 where nothing is refused
 --   WriteCauses k Bad f n r   each number is given by the answer r exactly in its cause, k to a bad value; and what is
 --                             returned beside it
 --   framable d, frameRefusal d   "that many data bytes, 0 to 65,535": no length can say more. This refusal is not in
---                                document 01's table: no writer of the link frames so much
+--                             document 01's table: no writer of the link frames so much
 use mathlib.Core.Path.{_≡_}
 use mathlib.Core.Logic.{_↔_, _⊎_}
 use mathlib.Core.List.{List, _++_}
@@ -44,8 +44,8 @@ abbrev pub changed : Option Error → List ℕ → List ℕ → List ℕ
 changed none new old = new
 changed (some e) new old = old
 
-unfoldable pub answerOf : Option Error → List ℕ → ℕ → WriteResult
-answerOf w f n = answered (refusalFor w f n) (length f)
+unfoldable pub writeResult : Option Error → List ℕ → ℕ → WriteResult
+writeResult w f n = answered (refusalFor w f n) (length f)
 
 unfoldable pub bufferAfter : Option Error → List ℕ → List ℕ → List ℕ
 bufferAfter w f out = changed (refusalFor w f (length out)) (written out f) out

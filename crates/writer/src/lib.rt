@@ -9,11 +9,13 @@ pub use puts::u16_bytes;
 use refusal::Error;
 use wire::FRAMING;
 use wire::Kind;
+use wire::header_of;
+use wire::tail_of;
 ghost use mathlib.Core.Path.{_≡_};
 ghost use mathlib.Core.Bool.{false};
 ghost use lib.ListN.{length};
 ghost use Rattle.wire.specs.Family.{framed};
-ghost use Rattle.writer.specs.Written.{answerOf, bufferAfter, frameRefusal, framable, WriteCauses};
+ghost use Rattle.writer.specs.Written.{writeResult, bufferAfter, frameRefusal, framable, WriteCauses};
 
 // Most data bytes that a frame's length can say.
 const MAX_LENGTH: usize = 65_535;
@@ -28,7 +30,7 @@ pub enum WriteResult {
 // can say, then with 4 a buffer shorter than the frame. Bytes after the frame stay. It is public for the other crates
 // of the link alone: document 01's table does not have this 6, and no writer of the link frames so much.
 pub fn put_frame(out: &mut [u8], kind: Kind, data: &[u8]) -> WriteResult
-    ensures told { λ r. ⌜ r ≡ answerOf (frameRefusal (now («data» .entry))) (framed kind (now («data» .entry)))
+    ensures told { λ r. ⌜ r ≡ writeResult (frameRefusal (now («data» .entry))) (framed kind (now («data» .entry)))
         (length (now (out .entry))) ⌝ }
     ensures left { λ _. ⌜ now (out .exit) ≡ bufferAfter (frameRefusal (now («data» .entry)))
         (framed kind (now («data» .entry))) (now (out .entry)) ⌝ }
@@ -43,11 +45,11 @@ pub fn put_frame(out: &mut [u8], kind: Kind, data: &[u8]) -> WriteResult
         return WriteResult::Err(Error::BufferTooSmall { needed });
     }
     // There is room for the whole frame, so each put below finds its place.
-    let header = kind.header();
+    let header = header_of(kind);
     put(out, 0, &header);
     put_u16(out, 4, data.len() as u16);
     put(out, 6, data);
-    let tail = kind.tail();
+    let tail = tail_of(kind);
     put(out, 6 + data.len(), &tail);
     WriteResult::Ok(needed)
 }

@@ -1,58 +1,82 @@
 -- `ack_writer::write_ack` meets its contract: the value is tested, then the data are laid in an array, and the frame is
 -- put around them. Assumes nothing.
-use mathlib.Core.Path.{sym, _∙_}
+use mathlib.Core.Path.{_≡_, refl, sym, _∙_}
+use mathlib.Core.Bool.{Bool, true}
 use native.Mathlib.Omega.{arith}
 use lib.Seq.{length-take-le}
+use denote.Ref.{now}
 use borrow.Author.Needs.{needs}
 use borrow.Author.Tests.{not-true, not-false}
-use Rattle.writer.proofs.Bytes.{bytes-all}
-use Rattle.ack_writer.proofs.Filling.{data-filled}
-use Rattle.ack_writer.proofs.RoundTrip.{writable-sound}
-use Rattle.ack_writer.proofs.Answers.{ack-refused, ack-put}
+use Rattle.refusal.specs.declared.Error.the-variants.{Unrepresentable}
+use Rattle.wire.specs.declared.Kind.the-variants.{Command}
+use Rattle.wire.proofs.Bytes.{bytes-at}
+use Rattle.writer.proofs.RoundTrip.{Agreed, round-refused, round-framed}
+use Rattle.ack_writer.specs.Frame.{ackData, writable}
+use Rattle.ack_writer.specs.RoundTrip.{AckValue, ackValue, acks}
+use Rattle.ack_writer.proofs.AckData.{data-length, data-filled}
+use Rattle.ack_writer.proofs.RoundTrip.{Fit, writable-sound, agreed}
 use Rattle.ack_writer.proofs.write_ack.Statement.{statement}
 use Rattle.ack_writer.proofs.write_ack.Tie as tie
 
+-- What is to be written, and whether it may be.
+abbrev value : tie.After-writable → AckValue
+value c =
+    let a = c .before .before .before .args in
+    ackValue (a .word) (a .ok) (a .status) (now (a .payload))
+
+abbrev may : tie.After-writable → Bool
+may c = writable (value c .word) (value c .ok) (value c .status) (value c .payload)
+
+agree : (c : tie.After-writable) → Agreed acks (value c) Unrepresentable (may c)
+agree c =
+    agreed (value c .word) (value c .ok) (value c .status) (value c .payload) (omega arith) (omega arith)
+    (bytes-at (value c .payload) (λ i l. omega (arith, c .before .shared-slice-known .given i)))
+
+good : (c : tie.Else1) → may (c .before) ≡ true
+good c = sym (c .before .writable .ensures) ∙ not-false _ (c .if1 .left)
+
+fit : (c : tie.Else1)
+    → Fit (value (c .before) .word) (value (c .before) .ok) (value (c .before) .status) (value (c .before) .payload)
+fit c = writable-sound _ _ _ _ (good c)
+
+-- The way back to each put, and to the test.
+abbrev third : tie.After-put-frame-arg → tie.After-put
+third c = c .before .before
+
+abbrev second : tie.After-put → tie.After-put-u162
+second c = c .before .before .before
+
+abbrev first : tie.After-put-u162 → tie.After-put-u16
+first c = c .before .before .before
+
+abbrev tested : tie.After-put → tie.Else1
+tested c = first (second c) .before .before
+
 returns : tie.Need-returns
-returns c =
-    let known = c .before .before in
-    let a = known .before .before .args in
-    ack-refused (a .word) (a .ok) (a .status) (a .payload .now) (omega arith) (omega arith)
-    (bytes-all (a .payload .now) (λ i. omega (arith, known .shared-slice-known .given i))) (a .out .now)
-    (sym (c .before .writable .ensures) ∙ not-true _ (c .if1 .taken))
+returns c = round-refused (agree (c .before)) _ (sym (c .before .writable .ensures) ∙ not-true _ (c .if1 .taken))
 
 add-put-u16 : tie.Need-add-put-u16
-add-put-u16 c =
-    let test = c .before .before in
-    let fit = writable-sound _ _ _ _ (sym (test .writable .ensures) ∙ not-false _ (c .before .if1 .left)) in
-    record { fits = omega arith }
+add-put-u16 c = let f = fit (c .before) in record { fits = omega arith }
 
 array-share-prefix-data : tie.Need-array-share-prefix-data
-array-share-prefix-data c =
-    let left = c .before .before .before .before .before .before .before .before .before .before in
-    let fit = writable-sound _ _ _ _ (sym (left .before .writable .ensures) ∙ not-false _ (left .if1 .left)) in
-    omega arith
+array-share-prefix-data c = omega (arith, fit (tested (third c)) .short)
 
 slice-aggregate-put-frame : tie.Need-slice-aggregate-put-frame
-slice-aggregate-put-frame c =
-    let left = c .before .before .before .before .before .before .before .before .before .before .before in
-    let fit = writable-sound _ _ _ _ (sym (left .before .writable .ensures) ∙ not-false _ (left .if1 .left)) in
-    sym (length-take-le _ _ (omega arith))
+slice-aggregate-put-frame c = sym (length-take-le _ _ (omega (arith, fit (tested (third (c .before))) .short)))
 
 returns-2 : tie.Need-returns-2
 returns-2 c =
-    let third = c .before .before .before .before .before .before in
-    let second = third .before .before .before in
-    let first = second .before .before .before in
-    let test = first .before .before .before in
-    let known = test .before in
-    let a = known .before .before .args in
-    let good = sym (test .writable .ensures) ∙ not-false _ (first .before .before .if1 .left) in
-    let fit = writable-sound _ _ _ _ good in
-    let bytes = bytes-all (a .payload .now) (λ i. omega (arith, known .shared-slice-known .given i)) in
-    let filled = data-filled (a .word) (a .status) (a .payload .now) _ _ _ (fit .short) (first .put-u16 .ensures .1)
-    (second .put-u162 .ensures .1) (third .put .ensures .1) in
-    ack-put (a .word) (a .ok) (a .status) (a .payload .now) (omega arith) (omega arith) bytes (a .out .now) _ _ _ good
-    filled (c .before .before .put-frame .ensures)
+    let framed = c .before .before in
+    let third = third (framed .before .before) in
+    let test = tested third in
+    let v = value (test .before) in
+    let short = fit test .short in
+    let e₁ = first (second third) .put-u16 .ensures .1 in
+    let e₂ = second third .put-u162 .ensures .1 in
+    let filled = data-filled (v .word) (v .status) (v .payload) _ _ _ short e₁ e₂ (third .put .ensures .1) in
+    let size = data-length (v .word) (v .status) (v .payload) in
+    round-framed (agree (test .before)) Command (ackData (v .word) (v .status) (v .payload)) _ _ _ refl (omega arith)
+    (good test) filled (framed .put-frame .ensures)
 
 pub write-ack-spec : {M : Type 1} → statement M
 write-ack-spec =

@@ -6,7 +6,7 @@ use Rattle.writer.specs.RoundTrip.{RoundTrip}
 use Rattle.command.specs.declared.Command.{Command}
 use Rattle.command_reader.specs.Read.{ReadTo, OneAnswer, ReadCauses, commands}
 use Rattle.command_reader.specs.declared.CommandResult.{CommandResult}
-use Rattle.command_reader.proofs.Answers.{read-unasked, read-asked, one-answer, read-causes}
+use Rattle.command_reader.proofs.CommandRead.{read-invalid, read-valid, one-answer, read-causes}
 use Rattle.command_reader.proofs.RoundTrip.{commands-agree}
 use borrow.Author.Needs.{needs}
 use Rattle.command_reader.proofs.read_command.Statement.{statement}
@@ -18,12 +18,12 @@ shown : (s : List ℕ) (r : CommandResult) → ReadTo s r
 shown s r h = (h, (one-answer s, (read-causes s h, commands-agree)))
 
 returns : tie.Need-returns
-returns c = shown _ _ (read-unasked _ _ (c .before .asks .ensures) (not-true _ (c .if1 .taken)))
+returns c = shown _ _ (read-invalid _ _ (c .before .is-command-frame .ensures) (not-true _ (c .if1 .taken)))
 
 returns-2 : tie.Need-returns-2
 returns-2 c =
-    let asked = c .before .before .before .asks .ensures .0 (not-false _ (c .before .before .if1 .left)) in
-    shown _ _ (rw (c .if-encodes-to .ensures, c .before .candidate-in .ensures) (read-asked _ asked))
+    let is = c .before .before .before .is-command-frame .ensures .0 (not-false _ (c .before .before .if1 .left)) in
+    shown _ _ (rw (c .if-encodes-to .ensures, c .before .candidate-in .ensures) (read-valid _ is))
 
 pub read-command-spec : {M : Type 1} → statement M
 read-command-spec =

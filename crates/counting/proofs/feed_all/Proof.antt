@@ -8,14 +8,13 @@ use native.Mathlib.Omega.{arith}
 use borrow.Author.Needs.{needs}
 use lib.ListN.{length, drop, length-drop}
 use lib.Seq.{take-all}
+use Rattle.wire.specs.Bytes.{Bytes}
+use Rattle.wire.proofs.Bytes.{bytes-at}
 use Rattle.stream.specs.Length.{linkLimit}
-use Rattle.engine.specs.Bytes.{Bytes}
-use Rattle.engine.proofs.Bytes.{bytes-at}
 use Rattle.parser.specs.Feed.{put, feedSliceOf}
 use Rattle.parser.specs.declared.Parser.{Parser}
 use Rattle.parser.specs.declared.FedSlice.{FedSlice}
-use Rattle.parser.proofs.Memory.{valid}
-use Rattle.parser.proofs.Demand.{from-any}
+use Rattle.parser.proofs.Known.{valid, known-any}
 use Rattle.counting.proofs.Rest.{Rest, rest-start, rest-end, rest-further, handed, parts-fed}
 use Rattle.counting.proofs.Line.{fed-all}
 use Rattle.counting.proofs.feed_all.Statement.{statement}
@@ -27,21 +26,6 @@ Inv-loop bytes buf₀ scan₀ stats₀ i₀ buf scan stats i = Rest (put buf₀ 
 abbrev μ-loop : tie.MeasureT-loop
 μ-loop bytes buf₀ scan₀ stats₀ i₀ buf scan stats i = length bytes - i
 
-loop-holds : tie.Need-loop-holds Inv-loop μ-loop
-loop-holds c = rest-start _ _
-
-sub-feed-slice-at : tie.Need-sub-feed-slice-at Inv-loop μ-loop
-sub-feed-slice-at c = omega arith
-
-part-feed-slice-at-start : tie.Need-part-feed-slice-at-start Inv-loop μ-loop
-part-feed-slice-at-start c = omega arith
-
-part-feed-slice-at-end : tie.Need-part-feed-slice-at-end Inv-loop μ-loop
-part-feed-slice-at-end c = omega arith
-
-feed-slice-at-requires : tie.Need-feed-slice-at-requires Inv-loop μ-loop
-feed-slice-at-requires c κs = tt
-
 -- At the loop's head: where the slice given is known, and that it is no longer than memory, said here since a search
 -- from below enters no more than 128 records.
 abbrev start : tie.At-loop Inv-loop μ-loop → tie.After-shared-slice-known Inv-loop μ-loop
@@ -50,9 +34,16 @@ start c = c .before .before .before .before
 room : (c : tie.At-loop Inv-loop μ-loop) → length (start c .before .args .bytes .now) < 18446744073709551616
 room c = search needs
 
--- After the slice feed: where the loop stood, that the rest of the bytes was fed from there, and where that leads.
+-- After the slice feed: its call, the turn that made it, and where the loop stood; that the rest of the bytes was fed
+-- from there, and where that leads.
+abbrev called : tie.After-struct-known Inv-loop μ-loop → tie.After-feed-slice-at Inv-loop μ-loop
+called c = c .before .before .before .before
+
+abbrev turn : tie.After-struct-known Inv-loop μ-loop → tie.In-loop Inv-loop μ-loop
+turn c = called c .before .before .before
+
 abbrev at-loop : tie.After-struct-known Inv-loop μ-loop → tie.At-loop Inv-loop μ-loop
-at-loop c = c .before .before .before .before .before .before .before .before
+at-loop c = turn c .before
 
 abbrev all : tie.After-struct-known Inv-loop μ-loop → List ℕ
 all c = start (at-loop c) .before .args .bytes .now
@@ -61,12 +52,12 @@ abbrev stood : tie.After-struct-known Inv-loop μ-loop → Parser
 stood c = put (at-loop c .loop .buf) (at-loop c .loop .scan) (at-loop c .loop .stats)
 
 abbrev fed : tie.After-struct-known Inv-loop μ-loop → FedSlice
-fed c = let moved = c .before .before .before .before .feed-slice-at in handed (moved .last .0) (moved .result)
+fed c = let moved = called c .feed-slice-at in handed (moved .last .0) (moved .result)
 
 fed-rest : (c : tie.After-struct-known Inv-loop μ-loop)
     → fed c ≡ feedSliceOf linkLimit (stood c) (drop (at-loop c .loop .i) (all c))
 fed-rest c =
-    let moved = c .before .before .before .before .feed-slice-at in
+    let moved = called c .feed-slice-at in
     let i = at-loop c .loop .i in
     parts-fed (stood c) _ (drop i (all c)) _ _ (moved .ensures .0) (moved .ensures .1)
     (take-all (length (all c) - i) (drop i (all c)) (omega (arith, length-drop i (all c))))
@@ -74,18 +65,8 @@ fed-rest c =
 further : (c : tie.After-struct-known Inv-loop μ-loop) → (0 < fed c .answer .count)
     × Rest (start (at-loop c) .before .args .parser) (fed c .parser) (all c) (at-loop c .loop .i + fed c .answer .count)
 further c =
-    rest-further _ _ _ _ (at-loop c .loop .inv)
-    (c .before .before .before .before .before .before .before .loop-test .taken)
+    rest-further _ _ _ _ (at-loop c .loop .inv) (turn c .loop-test .taken)
     (λ j. omega (arith, start (at-loop c) .shared-slice-known .given j)) (fed c) (fed-rest c)
-
-add-i : tie.Need-add-i Inv-loop μ-loop
-add-i c = record { fits = omega (arith, further c .1 .inside, room (at-loop c)) }
-
-loop-less : tie.Need-loop-less Inv-loop μ-loop
-loop-less c = omega (arith, further c .0, further c .1 .inside)
-
-loop-again : tie.Need-loop-again Inv-loop μ-loop
-loop-again c = further c .1
 
 returns : tie.Need-returns Inv-loop μ-loop
 returns c =
@@ -94,8 +75,8 @@ returns c =
     let bytes = known .before .args .bytes .now in
     let e = rest-end _ _ _ _ (c .before .loop .inv) (c .loop-test .left) in
     let all-bytes : Bytes bytes = bytes-at bytes (λ j l. omega (arith, known .shared-slice-known .given j)) in
-    let from = from-any p (valid p (known .before .good .0)) in
-    (e, (all-bytes, λ some. rw e (fed-all _ _ (from .fulfilled) bytes all-bytes)))
+    let from = known-any p (known .before .good .0) in
+    (e, (all-bytes, rw e (fed-all _ _ (from .fulfilled) bytes all-bytes)))
 
 pub feed-all-spec : {M : Type 1} → statement M
 feed-all-spec =
@@ -103,12 +84,12 @@ feed-all-spec =
     (tie.spec
     Inv-loop
     μ-loop
-    loop-holds
-    sub-feed-slice-at
-    part-feed-slice-at-start
-    part-feed-slice-at-end
-    feed-slice-at-requires
-    add-i
-    loop-less
-    loop-again
+    (λ c. rest-start _ _ (search valid))
+    (λ c. omega arith)
+    (λ c. omega arith)
+    (λ c. omega arith)
+    (λ c κs. tt)
+    (λ c. record { fits = omega (arith, further c .1 .inside, room (at-loop c)) })
+    (λ c. omega (arith, further c .0, further c .1 .inside))
+    (λ c. further c .1)
     returns)

@@ -6,7 +6,7 @@ use mir.Syntax.{w64}
 use mir.Facts.{toZ-ofZ}
 use borrow.Author.Needs.{needs}
 use Rattle.io.specs.Counts.{clamped}
-use Rattle.counting.proofs.Reading.{turned-by}
+use Rattle.counting.proofs.Reached.{turned-by}
 use Rattle.counting.proofs.feed_read.Statement.{statement}
 use Rattle.counting.proofs.feed_read.Tie as tie
 

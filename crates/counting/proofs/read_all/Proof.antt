@@ -3,8 +3,11 @@
 use native.Mathlib.Omega.{arith}
 use Rattle.parser.specs.Feed.{fresh}
 use Rattle.parser.specs.Claims.{FromHere}
+use Rattle.parser.specs.declared.Parser.{Parser}
+use Rattle.counting.specs.Counts.{countsOf}
+use Rattle.counting.specs.Counted.{Line}
 use Rattle.counting.specs.Reached.{Reached}
-use Rattle.counting.proofs.Reading.{reached-start, reached-on, turned-reached}
+use Rattle.counting.proofs.Reached.{reached-start, reached-on, turned-reached}
 use Rattle.counting.proofs.Line.{line-of}
 use Rattle.counting.proofs.read_all.Statement.{statement}
 use Rattle.counting.proofs.read_all.Tie as tie
@@ -16,37 +19,14 @@ abbrev μ-loop : tie.MeasureT-loop
 μ-loop fd at₀ turns₀ at turns = turns
 
 -- After a turn: what it leaves is reached from a fresh parser, if what the loop held was.
-turned : (c : tie.After-read-some Inv-loop μ-loop) → Reached fresh (c .read-some .result .parser)
-turned c = reached-on _ _ _ (c .before .before .loop .inv .0) (turned-reached _ _ (c .read-some .ensures))
+turned : (c : tie.After-read-some Inv-loop μ-loop) → Reached fresh (c .read-some .result .parser) × FromHere fresh
+turned c =
+    let held = c .before .before .loop .inv in
+    (reached-on _ _ _ (held .0) (turned-reached _ _ (c .read-some .ensures)), held .1)
 
-new-requires : tie.Need-new-requires Inv-loop μ-loop
-new-requires c κs = tt
-
-loop-holds : tie.Need-loop-holds Inv-loop μ-loop
-loop-holds c = (reached-start (c .new .ensures .0), rw (← c .new .ensures .0) (c .new .ensures .1 .0))
-
-read-some-requires : tie.Need-read-some-requires Inv-loop μ-loop
-read-some-requires c κs = tt
-
-returns : tie.Need-returns Inv-loop μ-loop
-returns c =
-    let at = c .before .before .before in
-    let r = turned at in
-    (r, line-of (at .before .before .loop .inv .1) _ r)
-
-sub-turns : tie.Need-sub-turns Inv-loop μ-loop
-sub-turns c = omega arith
-
-loop-less : tie.Need-loop-less Inv-loop μ-loop
-loop-less c = omega arith
-
-loop-again : tie.Need-loop-again Inv-loop μ-loop
-loop-again c =
-    let at = c .before .before .before in
-    (turned at, at .before .before .loop .inv .1)
-
-returns-2 : tie.Need-returns-2 Inv-loop μ-loop
-returns-2 c = let i = c .before .loop .inv in (i .0, line-of (i .1) _ (i .0))
+-- What is reached is told on a line.
+told : {q : Parser} → Reached fresh q × FromHere fresh → Reached fresh q × Line (countsOf q)
+told {q} r = (r .0, line-of (r .1) q (r .0))
 
 pub read-all-spec : {M : Type 1} → statement M
 read-all-spec =
@@ -54,11 +34,11 @@ read-all-spec =
     (tie.spec
     Inv-loop
     μ-loop
-    new-requires
-    loop-holds
-    read-some-requires
-    returns
-    sub-turns
-    loop-less
-    loop-again
-    returns-2)
+    (λ c κs. tt)
+    (λ c. (reached-start (c .new .ensures .0), rw (← c .new .ensures .0) (c .new .ensures .1 .0)))
+    (λ c κs. tt)
+    (λ c. told (turned (c .before .before .before)))
+    (λ c. omega arith)
+    (λ c. omega arith)
+    (λ c. turned (c .before .before .before))
+    (λ c. told (c .before .loop .inv)))

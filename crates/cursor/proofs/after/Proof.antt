@@ -3,11 +3,11 @@ use borrow.Author.Needs.{needs}
 use Rattle.cursor.proofs.after.Statement.{statement}
 use Rattle.cursor.proofs.after.Tie as tie
 
-returns : tie.Need-returns
-returns c = rw (c .before .p .given .1)
-
-returns-2 : tie.Need-returns-2
-returns-2 c = rw (c .enum-told .given .1)
-
 pub after-spec : {M : Type 1} → statement M
-after-spec = tie.close (tie.spec (λ c. search needs) (λ c. search needs) returns returns-2)
+after-spec =
+    tie.close
+    (tie.spec
+    (λ c. search needs)
+    (λ c. search needs)
+    (λ c. rw (c .before .p .given .1))
+    (λ c. rw (c .enum-told .given .1)))

@@ -15,7 +15,7 @@ stretches-all p ds = stretches-joined ds p
 
 stretch-one : StretchOfCall
 unfolding StretchOfCall
-stretch-one p before d behind h = stretch-of before p d behind h
+stretch-one p before d after h = stretch-of before p d after h
 
 returns : tie.Need-returns
 returns c = (appended, (stretches-all, stretch-one))

@@ -4,7 +4,7 @@ use Rattle.engineering.proofs.extra_count.Statement.{statement}
 use Rattle.engineering.proofs.extra_count.Tie as tie
 
 returns : tie.Need-returns
-returns c = c .least .ensures
+returns c = c .min .ensures
 
 pub extra-count-spec : {M : Type 1} → statement M
 extra-count-spec = tie.close (tie.spec (λ c κs. search needs) (λ c. search needs) returns)

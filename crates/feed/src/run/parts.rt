@@ -1,82 +1,33 @@
-// The run of a slice: a loop for each part of a frame, so that a byte of a header or of the data moves no more than it
-// must.
+// The run of a slice: a loop for the data, and one for the parts of a frame that are stored nowhere, so that a byte
+// moves no more than it must.
+use super::continued;
+use super::step_data;
 use super::step_header;
 use super::step_len;
 use super::step_tail;
 use super::taking;
-use super::went;
-use crate::place::in_data;
-use crate::place::in_tail;
+use crate::scans::in_data;
+use crate::scans::in_tail;
 use scan::Ended;
 use scan::Scan;
 use scan::Scanned;
 use scan::State;
 use scan::Stats;
+use scan::or_reset;
 use wire::MAX_FRAME;
-use wire::least;
+use wire::min;
 ghost use mathlib.Core.Path.{_≡_};
+ghost use mathlib.Core.List.{List};
 ghost use mathlib.Core.Bool.{true};
-ghost use Prim.Native.Nat.{_<_};
+ghost use Prim.Native.Nat.{ℕ, _<_};
 ghost use lib.ListN.{length};
 ghost use Rattle.stream.specs.Length.{linkLimit};
-ghost use Rattle.scan.specs.Scan.{inOrder, settled};
+ghost use Rattle.scan.specs.Scan.{wellFormed, orReset};
 ghost use Rattle.step.specs.Slice.{runOf};
-ghost use Rattle.step.specs.Phase.{Stands, Onward, OnwardDry};
-ghost use Rattle.scan.specs.declared.State.the-variants.{Header, Len, Data, Tail};
+ghost use Rattle.step.specs.Phase.{AtState, PartialRun, DataRun};
+ghost use Rattle.scan.specs.declared.State.the-variants.{Data};
 
-// Takes header bytes until a header is whole, and then its length.
-fn take_header(scan: Scan, stats: Stats, bytes: &[u8], from: usize) -> Scanned
-    requires { ⌜ Stands linkLimit Header scan (now bytes) from ⌝ }
-    ensures onward { λ r. ⌜ OnwardDry linkLimit scan stats (now (bytes .entry)) from r ⌝ }
-{
-    let mut at = scan;
-    let mut counted = stats;
-    let mut i = from;
-    loop {
-        let kind = at.kind;
-        let stepped = step_header(kind, at.matched, counted, bytes[i]);
-        let next = stepped.scan;
-        let now = stepped.stats;
-        i += 1;
-        if i == bytes.len() {
-            return taking(stepped, i);
-        }
-        let state = next.state;
-        let State::Header = state else {
-            return take_len(next, now, bytes, i);
-        };
-        at = next;
-        counted = now;
-    }
-}
-
-// Takes the bytes of a length.
-fn take_len(scan: Scan, stats: Stats, bytes: &[u8], from: usize) -> Scanned
-    requires { ⌜ Stands linkLimit Len scan (now bytes) from ⌝ }
-    ensures onward { λ r. ⌜ OnwardDry linkLimit scan stats (now (bytes .entry)) from r ⌝ }
-{
-    let mut at = scan;
-    let mut counted = stats;
-    let mut i = from;
-    loop {
-        let kind = at.kind;
-        let stepped = step_len(kind, at.matched, at.len, counted, bytes[i]);
-        let next = stepped.scan;
-        let now = stepped.stats;
-        i += 1;
-        if i == bytes.len() {
-            return taking(stepped, i);
-        }
-        let state = next.state;
-        let State::Len = state else {
-            return taking(stepped, i);
-        };
-        at = next;
-        counted = now;
-    }
-}
-
-// Takes data bytes, all that are due or there, and then the tail after them.
+// Takes data bytes, all that are due or there: none outside the data.
 fn take_data(
     buf: &mut [u8; MAX_FRAME],
     scan: Scan,
@@ -84,14 +35,18 @@ fn take_data(
     bytes: &[u8],
     from: usize,
 ) -> Scanned
-    requires { ⌜ Stands linkLimit Data scan (now bytes) from ⌝ }
-    ensures onward { λ r. ⌜ Onward linkLimit scan stats (now (buf .entry)) (now (bytes .entry)) from
+    requires { ⌜ (wellFormed linkLimit scan ≡ true) × (from < length (now bytes)) ⌝ }
+    ensures copied { λ r. ⌜ DataRun linkLimit scan stats (now (buf .entry)) (now (bytes .entry)) from
         r (now (buf .exit)) ⌝ }
 {
+    let state = scan.state;
+    let State::Data = state else {
+        return taking(continued(scan, stats), from);
+    };
     let kind = scan.kind;
     let len = scan.len;
     let pos = scan.pos;
-    let n = least(len - pos, bytes.len() - from);
+    let n = min(len - pos, bytes.len() - from);
     let mut j = 0;
     while j < n {
         buf[pos + j] = bytes[from + j];
@@ -99,32 +54,49 @@ fn take_data(
     }
     let taken = from + n;
     if taken == bytes.len() {
-        return taking(went(in_data(kind, len, pos + n), stats), taken);
+        taking(continued(in_data(kind, len, pos + n), stats), taken)
+    } else {
+        taking(continued(in_tail(kind, 0, len), stats), taken)
     }
-    take_tail(in_tail(kind, 0, len), stats, bytes, taken)
 }
 
-// Takes tail bytes until the frame ends or is given up.
-fn take_tail(scan: Scan, stats: Stats, bytes: &[u8], from: usize) -> Scanned
-    requires { ⌜ Stands linkLimit Tail scan (now bytes) from ⌝ }
-    ensures onward { λ r. ⌜ OnwardDry linkLimit scan stats (now (bytes .entry)) from r ⌝ }
+// Takes the bytes of a part that is stored nowhere: a header, a length or a tail. The arm of the data is never taken; a
+// step of its own there costs the others nothing. Only a tail leads to a tail, so there no state is compared.
+fn take_part(scan: Scan, stats: Stats, bytes: &[u8], from: usize) -> Scanned
+    requires { ⌜ AtState linkLimit (scan .state) scan (now bytes) from × (scan .state ≡ Data → ⊥) ⌝ }
+    ensures partial { λ r. ⌜ ((buf : List ℕ) → PartialRun linkLimit scan stats buf (now (bytes .entry)) from r buf) ⌝ }
 {
+    let state = scan.state;
     let mut at = scan;
     let mut counted = stats;
     let mut i = from;
     loop {
         let kind = at.kind;
-        let stepped = step_tail(kind, at.matched, at.len, counted, bytes[i]);
+        let stepped = match state {
+            State::Header => step_header(kind, at.matched, counted, bytes[i]),
+            State::Len => step_len(kind, at.matched, at.len, counted, bytes[i]),
+            State::Data => step_data(kind, at.len, at.pos, counted),
+            State::Tail => step_tail(kind, at.matched, at.len, counted, bytes[i]),
+        };
         let next = stepped.scan;
         let now = stepped.stats;
         i += 1;
-        if i == bytes.len() {
-            return taking(stepped, i);
-        }
-        let state = next.state;
-        let State::Tail = state else {
-            return taking(stepped, i);
+        let then = next.state;
+        let on = match then {
+            State::Header => match state {
+                State::Header => i < bytes.len(),
+                State::Len | State::Data | State::Tail => false,
+            },
+            State::Len => match state {
+                State::Len => i < bytes.len(),
+                State::Header | State::Data | State::Tail => false,
+            },
+            State::Data => false,
+            State::Tail => i < bytes.len(),
         };
+        if !on {
+            break taking(stepped, i);
+        }
         at = next;
         counted = now;
     }
@@ -138,22 +110,23 @@ fn take_some(
     bytes: &[u8],
     from: usize,
 ) -> Scanned
-    requires { ⌜ (inOrder linkLimit scan ≡ true) × (from < length (now bytes)) ⌝ }
-    ensures onward { λ r. ⌜ Onward linkLimit scan stats (now (buf .entry)) (now (bytes .entry)) from
+    requires { ⌜ (wellFormed linkLimit scan ≡ true) × (from < length (now bytes)) ⌝ }
+    ensures partial { λ r. ⌜ PartialRun linkLimit scan stats (now (buf .entry)) (now (bytes .entry)) from
         r (now (buf .exit)) ⌝ }
 {
-    let state = scan.state;
-    match state {
-        State::Header => take_header(scan, stats, bytes, from),
-        State::Len => take_len(scan, stats, bytes, from),
-        State::Data => take_data(buf, scan, stats, bytes, from),
-        State::Tail => take_tail(scan, stats, bytes, from),
+    let copied = take_data(buf, scan, stats, bytes, from);
+    let at = copied.scan;
+    let i = copied.taken;
+    if i == bytes.len() {
+        return copied;
     }
+    let now = copied.stats;
+    take_part(at, now, bytes, i)
 }
 
 // Takes the bytes up to and with the first that ends a frame.
 fn scan_slice(buf: &mut [u8; MAX_FRAME], scan: Scan, stats: Stats, bytes: &[u8]) -> Scanned
-    requires { ⌜ inOrder linkLimit scan ≡ true ⌝ }
+    requires { ⌜ wellFormed linkLimit scan ≡ true ⌝ }
     ensures run { λ r. ⌜ (r ≡ runOf linkLimit scan stats (now (buf .entry)) (now (bytes .entry)) .scanned)
         × (now (buf .exit) ≡ runOf linkLimit scan stats (now (buf .entry)) (now (bytes .entry)) .buf) ⌝ }
 {
@@ -187,10 +160,10 @@ fn scan_slice(buf: &mut [u8; MAX_FRAME], scan: Scan, stats: Stats, bytes: &[u8])
 
 // The bytes of a slice, up to and with the first that ends a frame. A scan with a number out of range is handled as if
 // reset came first.
-pub fn run_at(buf: &mut [u8; MAX_FRAME], scan: Scan, stats: Stats, bytes: &[u8]) -> Scanned
-    ensures run { λ r. ⌜ (let run = runOf linkLimit (settled linkLimit scan) stats (now (buf .entry))
+pub(crate) fn run_at(buf: &mut [u8; MAX_FRAME], scan: Scan, stats: Stats, bytes: &[u8]) -> Scanned
+    ensures run { λ r. ⌜ (let run = runOf linkLimit (orReset linkLimit scan) stats (now (buf .entry))
         (now (bytes .entry))
         in (r ≡ run .scanned) × (now (buf .exit) ≡ run .buf)) ⌝ }
 {
-    scan_slice(buf, scan.settled(), stats, bytes)
+    scan_slice(buf, or_reset(scan), stats, bytes)
 }

@@ -6,19 +6,17 @@ use Rattle.framing.proofs.Scanned.{divided}
 use Rattle.framing.proofs.Append.{division-append, division-cut, total-append}
 use Rattle.framing.proofs.Events.{event}
 use Rattle.framing.proofs.Resyncs.{resynced-bound, resynced-reached}
-use Rattle.engine.proofs.Over.{divided-over}
 use Rattle.stream.specs.Claims.{DividesOnce, DivisionSpelled, DivisionLength, UnfinishedOpen, DivisionAppend}
 use Rattle.stream.specs.Claims.{TotalAppend, EndsForGood, ResyncsBound, ResyncsReached}
 use Rattle.stream.proofs.Decoding.{counting}
 use Rattle.stream.proofs.Link.{link}
-use Rattle.stream.proofs.Linked.{tested, opens-are, wholes-are, in-words, in-tests}
-use Rattle.stream.proofs.Repeated.{opens-once, not-whole, not-twice}
+use Rattle.stream.proofs.Repeated.{opens-once, once-not-whole, not-twice}
 use Rattle.stream.proofs.division_claims.Statement.{statement}
 use Rattle.stream.proofs.division_claims.Tie as tie
 
 once : DividesOnce
 unfolding DividesOnce
-once limit s = divided-over (tested limit) (opens-are limit) (wholes-are limit) s (divided (link limit) s)
+once limit s = divided (link limit) s
 
 spells : DivisionSpelled
 unfolding DivisionSpelled
@@ -31,35 +29,28 @@ lengths limit s ps d = division-length d
 waits : UnfinishedOpen
 unfolding UnfinishedOpen
 waits limit s ps d =
-    let F = link limit in
-    let w = rest-waits F [] s (nothing-waits F) in
-    rw (division-cut F (in-tests limit d))
-    (opens-are limit _ .0 (w .0), λ x. w .1 (wholes-are limit _ .1 x))
+    let F = link limit in rw (division-cut F d) (rest-waits F [] s (nothing-waits F))
 
 appends : DivisionAppend
 unfolding DivisionAppend
-appends limit s t ps qs d e =
-    let x = division-append (link limit) t (in-tests limit d) (in-tests limit e) in
-    (x .0, x .1, in-words limit (x .2))
+appends limit s t ps qs d e = division-append (link limit) t d e
 
 totals : TotalAppend
 unfolding TotalAppend
-totals limit k s t ps qs rs d e r =
-    total-append (link limit) counting k t (in-tests limit d) (in-tests limit e) (in-tests limit r)
+totals limit k s t ps qs rs d e r = total-append (link limit) counting k t d e r
 
 ends : EndsForGood
 unfolding EndsForGood
-ends limit s c t u ps qs d e f x =
-    event (link limit) s c u (in-tests limit e) f .1 (event (link limit) s c t (in-tests limit d) f .0 x)
+ends limit s c t u ps qs d e f x = event (link limit) s c u e f .1 (event (link limit) s c t d f .0 x)
 
 bound : ResyncsBound
 unfolding ResyncsBound
-bound limit s ps d = resynced-bound (link limit) (in-tests limit d)
+bound limit s ps d = resynced-bound (link limit) d
 
 reached : ResyncsReached
 unfolding ResyncsReached
 reached limit m ps d =
-    resynced-reached (link limit) 0xF4 (opens-once limit) (not-whole limit) (not-twice limit) m (in-tests limit d)
+    resynced-reached (link limit) 0xF4 (opens-once limit) (once-not-whole limit) (not-twice limit) m d
 
 returns : tie.Need-returns
 returns c = (once, (spells, (lengths, (waits, (appends, (totals, (ends, (bound, reached))))))))

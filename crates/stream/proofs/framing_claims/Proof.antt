@@ -1,4 +1,4 @@
--- `stream::framing_claims` pins what Tested and Begins prove. Assumes nothing.
+-- `stream::framing_claims` pins what Begins proves. Assumes nothing.
 use Rattle.stream.specs.Claims.{WholeFramed, StrayBytes}
 use Rattle.stream.proofs.Begins.{whole-framed, stray-bytes}
 use Rattle.stream.proofs.framing_claims.Statement.{statement}

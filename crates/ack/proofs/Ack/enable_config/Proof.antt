@@ -1,29 +1,10 @@
 -- `ack::Ack::enable_config` meets its contract, by what `expect` answers. Assumes nothing.
 use borrow.Author.Needs.{needs}
-use mathlib.Core.Path.{refl}
-use Rattle.reply.specs.Replies.{enableConfigReply, noEnableConfig, enableConfigAs, returnedEnableConfig}
-use Rattle.ack.proofs.Awaiting.{replied-read, replied-refused}
-use Rattle.reply.proofs.Answers.{enable-config-returned}
+use Rattle.reply.specs.Replies.{enableConfigReply, enableConfigAs, returnedEnableConfig}
+use Rattle.ack.proofs.Awaiting.{replied-read, replied-refused, replied-whole}
+use Rattle.reply.proofs.Replies.{enable-config-returned}
 use Rattle.ack.proofs.Ack.enable_config.Statement.{statement}
 use Rattle.ack.proofs.Ack.enable_config.Tie as tie
-
-returns : tie.Need-returns
-returns c =
-    let at-told = c .before in
-    replied-refused noEnableConfig enableConfigAs returnedEnableConfig enable-config-returned enableConfigReply _ _
-    (at-told .before .before .expect .ensures .0)
-    (at-told .enum-told .given .1)
-    (c .error .ensures)
-    refl
-
-returns-2 : tie.Need-returns-2
-returns-2 c =
-    let at-awaited = c .before .before .before in
-    replied-read noEnableConfig enableConfigAs returnedEnableConfig enable-config-returned enableConfigReply _ _
-    (at-awaited .before .before .expect .ensures .0)
-    (at-awaited .awaited .given .1)
-    (c .before .payload .ensures)
-    (c .read .ensures)
 
 pub enable-config-spec : {M : Type 1} → statement M
 enable-config-spec =
@@ -33,7 +14,9 @@ enable-config-spec =
     (λ c. search needs)
     (λ c. search needs)
     (λ c κs. search needs)
-    returns
+    (λ c. replied-whole _ _ returnedEnableConfig enable-config-returned _ _ _
+    (search (replied-refused enableConfigAs enableConfigReply)))
     (λ c κs. search needs)
     (λ c κs. search needs)
-    returns-2)
+    (λ c. replied-whole _ _ returnedEnableConfig enable-config-returned _ _ _
+    (search (replied-read enableConfigAs enableConfigReply))))

@@ -1,28 +1,10 @@
 -- `ack::Ack::parameters` meets its contract, by what `expect` answers. Assumes nothing.
 use borrow.Author.Needs.{needs}
-use Rattle.reply.specs.Parameters.{parametersReply, noParameters, parametersAs, returnedParameters}
-use Rattle.ack.proofs.Awaiting.{replied-read, replied-refused}
+use Rattle.reply.specs.Parameters.{parametersReply, parametersAs, returnedParameters}
+use Rattle.ack.proofs.Awaiting.{replied-read, replied-refused, replied-whole}
 use Rattle.reply.proofs.Sensitivities.{parameters-returned}
 use Rattle.ack.proofs.Ack.parameters.Statement.{statement}
 use Rattle.ack.proofs.Ack.parameters.Tie as tie
-
-returns : tie.Need-returns
-returns c =
-    let at-told = c .before .before in
-    replied-refused noParameters parametersAs returnedParameters parameters-returned parametersReply _ _
-    (at-told .before .before .expect .ensures .0)
-    (at-told .enum-told .given .1)
-    (c .before .error .ensures)
-    (c .refused .ensures)
-
-returns-2 : tie.Need-returns-2
-returns-2 c =
-    let at-awaited = c .before .before .before in
-    replied-read noParameters parametersAs returnedParameters parameters-returned parametersReply _ _
-    (at-awaited .before .before .expect .ensures .0)
-    (at-awaited .awaited .given .1)
-    (c .before .payload .ensures)
-    (c .read .ensures)
 
 pub parameters-spec : {M : Type 1} → statement M
 parameters-spec =
@@ -33,7 +15,9 @@ parameters-spec =
     (λ c. search needs)
     (λ c κs. search needs)
     (λ c κs. search needs)
-    returns
+    (λ c. replied-whole _ _ returnedParameters parameters-returned _ _ _
+    (search (replied-refused parametersAs parametersReply)))
     (λ c κs. search needs)
     (λ c κs. search needs)
-    returns-2)
+    (λ c. replied-whole _ _ returnedParameters parameters-returned _ _ _
+    (search (replied-read parametersAs parametersReply))))

@@ -13,8 +13,8 @@ returns c =
 
 returns-2 : tie.Need-returns-2
 returns-2 c =
-    let known = c .before .before .before .before .starting-with .ensures in
-    let told = sym known ∙ c .before .before .enum-told .given .1 in
+    let none = c .before .before in
+    let told = sym (none .before .before .starting-with .ensures) ∙ none .enum-told .given .1 in
     rw (c .before .hunting .ensures, c .bump .ensures) (sym (start-none _ _ told))
 
 pub start-spec : {M : Type 1} → statement M

@@ -8,18 +8,21 @@ use Rattle.feed.proofs.feeding.feed_at.Tie as tie
 returns : tie.Need-returns
 unfolding movedOf bufOf
 returns c =
-    let ran = c .before .before .before .before .before .before .before .before .step-at in
-    let found = c .before .before .before .before .ended .given in
-    let made = emits-frame (ran .result .scan) (ran .result .stats) (ran .last .0) (ran .result .ended) (found .0 .0)
-    (found .0 .1 .0) _ _ (found .1) (c .before .emit .ensures) (c .tally .ensures) in
+    let told = c .before .before .before in
+    let ended = told .before in
+    let counted = ended .before .before in
+    let ran = counted .before .before .step-at in
+    let made = emits-frame (ran .result .scan) (ran .result .stats) (ran .last .0) (ended .ended .given .1)
+    (c .before .emit .ensures) (c .tally .ensures) in
     (rw (← ran .ensures .0, ← ran .ensures .1) made, ran .ensures .1)
 
 returns-2 : tie.Need-returns-2
 unfolding movedOf bufOf
 returns-2 c =
-    let ran = c .before .before .before .before .before .step-at in
-    let made = emits-none (ran .result .scan) (ran .result .stats) (ran .last .0) (ran .result .ended) _
-    (c .before .enum-told .given .1) (c .none .ensures) in
+    let counted = c .before .before .before in
+    let ran = counted .before .before .step-at in
+    let made = emits-none (ran .result .scan) (ran .result .stats) (ran .last .0)
+    (c .before .enum-told .given .1) (c .no-frame .ensures) in
     (rw (← ran .ensures .0, ← ran .ensures .1) made, ran .ensures .1)
 
 pub feed-at-spec : {M : Type 1} → statement M

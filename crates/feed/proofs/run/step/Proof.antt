@@ -1,4 +1,4 @@
--- `feed::step` meets its contract: a scan in order has what the step of its state requires. Assumes nothing.
+-- `feed::step` meets its contract: a well-formed scan has what the step of its state requires. Assumes nothing.
 use borrow.Author.Needs.{needs}
 use mathlib.Core.Path.{_∙_}
 use Rattle.stream.specs.Length.{linkLimit}

@@ -1,37 +1,50 @@
--- `feed::step_header` meets its contract: each way through it has its law. Assumes nothing.
+-- `feed::step_header` meets its contract: its tests are the definition's. Assumes nothing.
 use borrow.Author.Needs.{needs}
-use mathlib.Core.Path.{sym, _∙_}
-use Rattle.step.proofs.Turns.{header-first, header-over, header-all, header-on}
+use native.Mathlib.Omega.{arith}
+use borrow.Author.Tests.{eq-eqb, ne-eqb}
 use Rattle.feed.proofs.run.step_header.Statement.{statement}
 use Rattle.feed.proofs.run.step_header.Tie as tie
 
 returns : tie.Need-returns
-returns c =
-    let a = c .before .before .args in
-    c .start .ensures ∙ sym (header-first (a .stats) (a .byte) (a .kind) (a .matched) (c .before .if1 .taken))
+returns c = rw (c .start .ensures, eq-eqb _ _ (c .before .if1 .taken))
 
 returns-2 : tie.Need-returns-2
 returns-2 c =
-    let a = c .before .before .before .before .before .args in
-    (rw (c .before .abandon .ensures) at (c .start2 .ensures))
-    ∙ sym (header-over (a .stats) (a .byte) (a .kind) (a .matched) (c .before .before .before .before .if1 .left)
-    (λ q. c .before .before .if2 .taken (q ∙ sym (c .before .before .before .header-byte .ensures))))
+    let other = c .before .before in
+    let due = other .before in
+    rw (
+      c .start2 .ensures,
+      c .before .abandon .ensures,
+      ne-eqb _ _ (due .before .if1 .left),
+      ← due .header-byte .ensures,
+      ne-eqb _ _ (other .if2 .taken),
+    )
 
 returns-3 : tie.Need-returns-3
 returns-3 c =
-    let a = c .before .before .before .before .before .before .args in
-    (rw (c .before .in-len .ensures) at (c .went .ensures))
-    ∙ sym (header-all (a .stats) (a .byte) (a .kind) (a .matched) (c .before .before .before .before .before .if1 .left)
-    (c .before .before .before .if2 .left ∙ c .before .before .before .before .header-byte .ensures)
-    (c .before .before .if3 .taken))
+    let last = c .before .before in
+    let came = last .before in
+    rw (
+      c .continued .ensures,
+      c .before .in-len .ensures,
+      ne-eqb _ _ (came .before .before .if1 .left),
+      ← came .before .header-byte .ensures,
+      eq-eqb _ _ (came .if2 .left),
+      eq-eqb (came .before .before .before .args .matched) 3 (omega (arith, came .before .before .before .pre)),
+    )
 
 returns-4 : tie.Need-returns-4
 returns-4 c =
-    let a = c .before .before .before .before .before .before .args in
-    (rw (c .before .in-header .ensures) at (c .went2 .ensures))
-    ∙ sym (header-on (a .stats) (a .byte) (a .kind) (a .matched) (c .before .before .before .before .before .if1 .left)
-    (c .before .before .before .if2 .left ∙ c .before .before .before .before .header-byte .ensures)
-    (c .before .before .if3 .left))
+    let more = c .before .before in
+    let came = more .before in
+    rw (
+      c .continued2 .ensures,
+      c .before .in-header .ensures,
+      ne-eqb _ _ (came .before .before .if1 .left),
+      ← came .before .header-byte .ensures,
+      eq-eqb _ _ (came .if2 .left),
+      ne-eqb (came .before .before .before .args .matched) 3 (λ e. omega arith),
+    )
 
 pub step-header-spec : {M : Type 1} → statement M
 step-header-spec =

@@ -1,32 +1,45 @@
--- `feed::step_len` meets its contract: each way through it has its law. Assumes nothing.
+-- `feed::step_len` meets its contract: its tests are the definition's. Assumes nothing.
 use borrow.Author.Needs.{needs}
 use mathlib.Core.Path.{sym, _∙_}
+use Prim.Native.Nat.{_+_, _*_, _<_}
+use native.Mathlib.Omega.{arith}
+use borrow.Author.Tests.{eq-eqb, ne-eqb}
 use Rattle.stream.specs.Length.{linkLimit}
-use Rattle.step.proofs.Turns.{length-first, length-in, length-out}
+use Rattle.stream.proofs.Words.{range-true}
+use Rattle.scan.proofs.DataAt.{data-some}
 use Rattle.feed.proofs.run.step_len.Statement.{statement}
 use Rattle.feed.proofs.run.step_len.Tie as tie
 
 returns : tie.Need-returns
-returns c =
-    let a = c .before .before .before .args in
-    (rw (c .before .in-len .ensures) at (c .went .ensures))
-    ∙ sym (length-first (a .stats) (a .byte) (a .kind) (a .matched) (a .len) linkLimit (c .before .before .if1 .taken))
+returns c = rw (c .continued .ensures, c .before .in-len .ensures, eq-eqb _ _ (c .before .before .if1 .taken))
 
 returns-2 : tie.Need-returns-2
 returns-2 c =
-    let a = c .before .before .before .before .before .args in
-    (rw (c .before .in-data .ensures) at (c .went2 .ensures))
-    ∙ sym (length-in (a .stats) (a .byte) (a .kind) (a .matched) (a .len) linkLimit
-    (c .before .before .before .before .if1 .left)
-    (sym (c .before .before .before .in-range .ensures) ∙ c .before .before .if2 .taken))
+    let in-range = c .before .before in
+    let told = in-range .before in
+    let a = told .before .before .args in
+    let range = sym (told .in-range .ensures) ∙ in-range .if2 .taken in
+    let whole = a .len + 256 * a .byte in
+    let some : 0 < whole = omega (arith, range-true linkLimit whole .0 range .0) in
+    rw (
+      c .continued2 .ensures,
+      c .before .in-data .ensures,
+      ne-eqb _ _ (told .before .if1 .left),
+      range,
+      data-some (a .kind) whole 0 some,
+    )
 
 returns-3 : tie.Need-returns-3
 returns-3 c =
-    let a = c .before .before .before .before .before .args in
-    (rw (c .before .abandon .ensures) at (c .start .ensures))
-    ∙ sym (length-out (a .stats) (a .byte) (a .kind) (a .matched) (a .len) linkLimit
-    (c .before .before .before .before .if1 .left)
-    (sym (c .before .before .before .in-range .ensures) ∙ c .before .before .if2 .left))
+    let out = c .before .before in
+    let told = out .before in
+    rw (
+      c .start .ensures,
+      c .before .abandon .ensures,
+      ne-eqb _ _ (told .before .if1 .left),
+      ← told .in-range .ensures,
+      out .if2 .left,
+    )
 
 pub step-len-spec : {M : Type 1} → statement M
 step-len-spec =

@@ -1,30 +1,41 @@
--- `feed::step_tail` meets its contract: each way through it has its law. Assumes nothing.
+-- `feed::step_tail` meets its contract: its tests are the definition's. Assumes nothing.
 use borrow.Author.Needs.{needs}
-use mathlib.Core.Path.{sym, _∙_}
-use Rattle.step.proofs.Turns.{tail-over, tail-all, tail-on}
+use native.Mathlib.Omega.{arith}
+use borrow.Author.Tests.{eq-eqb, ne-eqb}
 use Rattle.feed.proofs.run.step_tail.Statement.{statement}
 use Rattle.feed.proofs.run.step_tail.Tie as tie
 
 returns : tie.Need-returns
 returns c =
-    let a = c .before .before .before .before .args in
-    (rw (c .before .abandon .ensures) at (c .start .ensures))
-    ∙ sym (tail-over (a .stats) (a .byte) (a .kind) (a .matched) (a .len)
-    (λ q. c .before .before .if1 .taken (q ∙ sym (c .before .before .before .tail-byte .ensures))))
+    let other = c .before .before in
+    rw (
+      c .start .ensures,
+      c .before .abandon .ensures,
+      ← other .before .tail-byte .ensures,
+      ne-eqb _ _ (other .if1 .taken),
+    )
 
 returns-2 : tie.Need-returns-2
 returns-2 c =
-    let a = c .before .before .before .before .args in
-    rw (c .hunting .ensures) (sym (tail-all (a .stats) (a .byte) (a .kind) (a .matched) (a .len)
-    (c .before .before .if1 .left ∙ c .before .before .before .tail-byte .ensures) (c .before .if2 .taken)))
+    let came = c .before .before in
+    rw (
+      c .hunting .ensures,
+      ← came .before .tail-byte .ensures,
+      eq-eqb _ _ (came .if1 .left),
+      eq-eqb (came .before .before .args .matched) 3 (omega (arith, came .before .before .pre)),
+    )
 
 returns-3 : tie.Need-returns-3
 returns-3 c =
-    let a = c .before .before .before .before .before .args in
-    (rw (c .before .in-tail .ensures) at (c .went .ensures))
-    ∙ sym (tail-on (a .stats) (a .byte) (a .kind) (a .matched) (a .len)
-    (c .before .before .before .if1 .left ∙ c .before .before .before .before .tail-byte .ensures)
-    (c .before .before .if2 .left))
+    let more = c .before .before in
+    let came = more .before in
+    rw (
+      c .continued .ensures,
+      c .before .in-tail .ensures,
+      ← came .before .tail-byte .ensures,
+      eq-eqb _ _ (came .if1 .left),
+      ne-eqb (came .before .before .args .matched) 3 (λ e. omega arith),
+    )
 
 pub step-tail-spec : {M : Type 1} → statement M
 step-tail-spec =

@@ -1,4 +1,4 @@
--- `feed::store` meets its contract: a scan in order has room for a data byte. Assumes nothing.
+-- `feed::store` meets its contract: a well-formed scan has room for a data byte. Assumes nothing.
 use borrow.Author.Needs.{needs}
 use mathlib.Core.Path.{_≡_}
 use mathlib.Core.Logic.{_⊎_, ⊎-elim}

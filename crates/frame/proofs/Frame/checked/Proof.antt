@@ -10,14 +10,17 @@ use Rattle.frame.specs.Envelope.{announced, envelope}
 use Rattle.frame.specs.declared.envelope.Envelope.the-variants.{Data}
 use Rattle.frame.proofs.Opened.{Held, opened-data}
 use Rattle.frame.specs.Frame.{decoded}
-use Rattle.frame.proofs.Answers.{fails-framing, passes-framing}
+use Rattle.frame.proofs.FrameChecked.{fails-framing, passes-framing}
 use borrow.Author.Needs.{needs}
 use Rattle.frame.proofs.Frame.checked.Statement.{statement}
 use Rattle.frame.proofs.Frame.checked.Tie as tie
 
 -- What is known once the envelope is opened: the bytes, the family, and where the data end.
+abbrev at-open : tie.After-known-told2 → tie.After-open
+at-open c = c .before .before .before
+
 abbrev bytes : tie.After-known-told2 → List ℕ
-bytes c = now (c .before .before .before .before .before .args .bytes)
+bytes c = now (at-open c .before .before .args .bytes)
 
 abbrev kind : tie.After-known-told2 → Kind
 kind c = c .before .kind .given .0 .0
@@ -26,7 +29,7 @@ abbrev end : tie.After-known-told2 → ℕ
 end c = c .before .kind .given .0 .1 .0
 
 opened : (c : tie.After-known-told2) → envelope (bytes c) ≡ Data (kind c) (end c)
-opened c = sym (c .before .before .before .open .ensures) ∙ c .before .kind .given .1
+opened c = sym (at-open c .open .ensures) ∙ c .before .kind .given .1
 
 held : (c : tie.After-known-told2) → Held (bytes c) (kind c) (end c)
 held c = opened-data _ _ _ (opened c)
@@ -42,8 +45,8 @@ part-decode-at-end c = omega (arith, held c .ends, held c .inside)
 
 returns : tie.Need-returns
 returns c =
-    let read = c .before .before .before .before .open .ensures in
-    c .failing .ensures ∙ sym (fails-framing _ _ (sym read ∙ c .before .before .check .given .1))
+    let told = c .before .before in
+    c .failing .ensures ∙ sym (fails-framing _ _ (sym (told .before .before .open .ensures) ∙ told .check .given .1))
 
 returns-2 : tie.Need-returns-2
 returns-2 c =

@@ -5,12 +5,16 @@ use Rattle.frame.proofs.Frame.of_ack.Statement.{statement}
 use Rattle.frame.proofs.Frame.of_ack.Tie as tie
 
 returns : tie.Need-returns
-returns c = let read = c .before .before .before .before .checked .ensures in
-    c .failing .ensures ∙ sym (ack-fails _ _ _ (sym read ∙ c .before .before .check .given .1))
+returns c =
+    let told = c .before .before in
+    let answer = told .before .before .checked-ack .ensures in
+    c .failing .ensures ∙ sym (ack-fails _ _ _ (sym answer ∙ told .check .given .1))
 
 returns-2 : tie.Need-returns-2
-returns-2 c = let read = c .before .before .before .before .before .checked .ensures in
-    rw (c .no-report .ensures) (sym (ack-passes _ _ _ (sym read ∙ c .before .before .before .ack .given .1)))
+returns-2 c =
+    let told = c .before .before .before in
+    rw (c .no-report .ensures)
+    (sym (ack-passes _ _ _ (sym (told .before .before .checked-ack .ensures) ∙ told .ack .given .1)))
 
 pub of-ack-spec : {M : Type 1} → statement M
 of-ack-spec =

@@ -6,15 +6,16 @@ use Rattle.frame.proofs.Frame.of_report.Tie as tie
 
 returns : tie.Need-returns
 returns c =
-    let read = c .before .before .before .before .checked .ensures in
-    c .failing .ensures
-    ∙ sym (report-fails 4 _ _ (ap (λ r. r .failed) (sym read) ∙ c .before .before .failed .given .1))
+    let told = c .before .before in
+    let read = told .before .before .checked-report .ensures in
+    c .failing .ensures ∙ sym (report-fails 4 _ _ (ap (λ r. r .failed) (sym read) ∙ told .failed .given .1))
 
 returns-2 : tie.Need-returns-2
 returns-2 c =
-    let read = c .before .before .before .before .checked .ensures in
+    let told = c .before .before in
+    let read = told .before .before .checked-report .ensures in
     rw (c .no-ack .ensures, read)
-    (sym (report-passes 4 _ (ap (λ r. r .failed) (sym read) ∙ c .before .before .enum-told .given .1)))
+    (sym (report-passes 4 _ (ap (λ r. r .failed) (sym read) ∙ told .enum-told .given .1)))
 
 pub of-report-spec : {M : Type 1} → statement M
 of-report-spec =

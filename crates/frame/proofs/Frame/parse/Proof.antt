@@ -1,5 +1,5 @@
 use Rattle.frame.specs.Frame.{parsedFrame}
-use Rattle.frame.proofs.Answers.{parsed-whole}
+use Rattle.frame.proofs.FrameChecked.{parsed-whole}
 use borrow.Author.Needs.{needs}
 use Rattle.frame.proofs.Frame.parse.Statement.{statement}
 use Rattle.frame.proofs.Frame.parse.Tie as tie

@@ -1,15 +1,11 @@
+-- `refusal::MaybeCheck::outcome` meets its contract: the check that failed first gives the refusal. Assumes nothing.
 use borrow.Author.Needs.{needs}
 use Rattle.refusal.proofs.MaybeCheck.outcome.Statement.{statement}
 use Rattle.refusal.proofs.MaybeCheck.outcome.Tie as tie
 
--- src/lib.rt:164:30
--- src/lib.rt:164:49
--- src/lib.rt:165:33
--- src/lib.rt:160:5
 returns : tie.Need-returns
 returns c = rw (c .error .ensures, c .before .before .self .given .1)
 
--- src/lib.rt:160:5
 pub outcome-spec : {M : Type 1} → statement M
 outcome-spec =
     tie.close

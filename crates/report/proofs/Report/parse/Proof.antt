@@ -1,16 +1,16 @@
--- `report::Report::parse` meets its contract, by what `checked` and `outcome` ensure. Assumes nothing.
+-- `report::Report::parse` meets its contract, by what `checked_report` and `outcome` ensure. Assumes nothing.
 use mathlib.Core.Path.{ap, _∙_}
 use borrow.Author.Needs.{needs}
 use Rattle.refusal.specs.Check.{outcomeOf}
 use Rattle.report.specs.Check.{parsedReport}
-use Rattle.report.proofs.Answers.{parsed-whole}
+use Rattle.report.proofs.ReportChecked.{parsed-whole}
 use Rattle.report.proofs.Report.parse.Statement.{statement}
 use Rattle.report.proofs.Report.parse.Tie as tie
 
 returns : tie.Need-returns
 unfolding parsedReport
 returns c =
-    let read = c .before .before .checked .ensures in
+    let read = c .before .before .checked-report .ensures in
     let told = c .outcome .ensures ∙ ap (λ k. outcomeOf (k .failed)) read in
     parsed-whole _ (rw (told, read))
 

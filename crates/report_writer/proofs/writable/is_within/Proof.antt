@@ -11,7 +11,8 @@ returns c = sym (within-first _ _ _ _ (sym (c .before .is-counted .ensures) ∙ 
 
 returns-2 : tie.Need-returns-2
 returns-2 c =
-    let first = c .before .before .before .before in
+    let asked = c .before .before in
+    let first = asked .before .before in
     let moving = sym (first .before .is-counted .ensures) ∙ not-false _ (first .if1 .left) in
     let stationary = sym (c .before .is-counted2 .ensures) ∙ not-true _ (c .if2 .taken) in
     sym (within-second _ _ _ _ moving stationary)
@@ -19,7 +20,8 @@ returns-2 c =
 returns-3 : tie.Need-returns-3
 returns-3 c =
     let second = c .before .before .before in
-    let first = second .before .before .before .before in
+    let asked = second .before .before in
+    let first = asked .before .before in
     let moving = sym (first .before .is-counted .ensures) ∙ not-false _ (first .if1 .left) in
     let stationary = sym (second .before .is-counted2 .ensures) ∙ not-false _ (second .if2 .left) in
     c .is-counted3 .ensures ∙ sym (within-third _ _ _ _ moving stationary)

@@ -1,4 +1,4 @@
--- `wire::bump` meets its contract: what is left below the most decides which side of the minimum it is.
+-- `wire::bump` meets its contract: what is left below the max decides which side of the minimum it is.
 -- Assumes nothing.
 use borrow.Author.Needs.{needs}
 use native.Mathlib.Omega.{arith}

@@ -4,7 +4,7 @@ use mathlib.Core.Path.{sym, _∙_}
 use native.Mathlib.Omega.{arith}
 use borrow.Author.Needs.{needs}
 use Rattle.wire.proofs.Prefixes.{pasted-over}
-use Rattle.writer.proofs.PutPuts.{placed-fits, placed-fails, put-fits, put-fails}
+use Rattle.writer.proofs.PutFits.{placed-fits, placed-fails, put-fits, put-fails}
 use Rattle.writer.proofs.puts.put.Statement.{statement}
 use Rattle.writer.proofs.puts.put.Tie as tie
 

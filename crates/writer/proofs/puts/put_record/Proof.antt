@@ -5,8 +5,9 @@ use Rattle.writer.proofs.puts.put_record.Tie as tie
 
 returns : tie.Need-returns
 returns c =
-    let numbers = c .before .before .before .before .before in
-    rw (numbers .before .u16-bytes .ensures, numbers .u32-bytes .ensures) at (c .before .before .put .ensures)
+    let put = c .before .before in
+    let numbers = put .before .before .before in
+    rw (numbers .before .u16-bytes .ensures, numbers .u32-bytes .ensures) at (put .put .ensures)
 
 pub put-record-spec : {M : Type 1} → statement M
 put-record-spec =

@@ -4,7 +4,7 @@ use Rattle.writer.proofs.puts.put_u16.Statement.{statement}
 use Rattle.writer.proofs.puts.put_u16.Tie as tie
 
 returns : tie.Need-returns
-returns c = rw (c .before .before .before .before .before .u16-bytes .ensures) at (c .before .before .put .ensures)
+returns c = (cc, cc)
 
 pub put-u16-spec : {M : Type 1} → statement M
 put-u16-spec =

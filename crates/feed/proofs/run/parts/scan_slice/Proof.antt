@@ -20,35 +20,35 @@ abbrev μ-loop : tie.MeasureT-loop
 μ-loop buf₀ bytes at₀ counted₀ ended₀ i₀ buf at counted ended i = length bytes - i
 
 loop-holds : tie.Need-loop-holds Inv-loop μ-loop
-loop-holds c = (left-start linkLimit _ _ _ _ (c .before .pre), refl)
+loop-holds c = (left-start (c .before .pre), refl)
 
 take-some-requires : tie.Need-take-some-requires Inv-loop μ-loop
 take-some-requires c κs = (c .before .before .loop .inv .0 .order, omega arith)
 
 loop-less : tie.Need-loop-less Inv-loop μ-loop
-loop-less c = omega (arith, c .before .before .before .before .take-some .ensures)
+loop-less c =
+    let now = c .before .before in
+    omega (arith, now .before .before .take-some .ensures)
 
 loop-again : tie.Need-loop-again Inv-loop μ-loop
 loop-again c =
-    let l = c .before .before .before .before .before .before .before .loop in
-    let t = c .before .before .before .before .take-some in (
-      left-on linkLimit (l .at) (l .counted) (l .buf) _ _ (l .i) (l .inv .0) (t .result) (t .last .0) (t .ensures)
-          (c .enum-told2 .given .1),
-      l .inv .1,
-    )
+    let now = c .before .before in
+    let part = now .before .before in
+    let inv = part .before .before .before .loop .inv in
+    (left-on (inv .0) (part .take-some .ensures) (c .enum-told2 .given .1), inv .1)
 
 returns : tie.Need-returns Inv-loop μ-loop
 returns c =
     let l = c .before .loop in
-    let all = left-end linkLimit (l .at) (l .counted) (l .buf) _ _ (l .i) (l .inv .0) (omega arith) in
+    let all = left-end (l .inv .0) (omega arith) in
     rw (l .inv .1) (ap (λ (x : Run). x .scanned) all, ap (λ (x : Run). x .buf) all)
 
 returns-2 : tie.Need-returns-2 Inv-loop μ-loop
 returns-2 c =
-    let l = c .before .before .before .before .before .before .before .loop in
-    let t = c .before .before .before .before .take-some in
-    let all = left-frame linkLimit (l .at) (l .counted) (l .buf) _ _ (l .i) (l .inv .0) (t .result) (t .last .0)
-    (t .ensures) _ _ (c .enum-told .given .1) in
+    let now = c .before .before in
+    let part = now .before .before in
+    let inv = part .before .before .before .loop .inv in
+    let all = left-frame (inv .0) (part .take-some .ensures) (c .enum-told .given .1) in
     (ap (λ (x : Run). x .scanned) all, ap (λ (x : Run). x .buf) all)
 
 pub scan-slice-spec : {M : Type 1} → statement M

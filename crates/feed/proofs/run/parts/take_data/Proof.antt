@@ -1,14 +1,16 @@
 -- `feed::parts::take_data` meets its contract. The loop's invariant is `Copied`: with j bytes copied, the run from here
 -- is the run from the start. The measure is what is left to copy. Assumes nothing.
 use borrow.Author.Needs.{needs}
-use mathlib.Core.Path.{_≡_, refl}
-use Prim.Native.Nat.{_+_, _-_, _≤_}
+use mathlib.Core.Path.{_≡_}
+use mathlib.Core.Logic.{_⊎_, ⊎-elim}
+use Prim.Native.Nat.{ℕ, _-_, _≤_}
 use native.Mathlib.Omega.{arith}
 use Rattle.stream.specs.Length.{linkLimit}
-use Rattle.feed.proofs.Copies.{Due, least-due, due-whole, Copied, copied-none, copied-more, copied-onward}
-use Rattle.feed.proofs.Copies.{copied-stands, copied-then}
+use Rattle.step.specs.Phase.{AtState}
+use Rattle.scan.specs.declared.State.the-variants.{Data}
+use Rattle.feed.proofs.Copies.{Due, min-due, Copied, copied-none, copied-more}
+use Rattle.feed.proofs.Copies.{AllCopied, copied-last, copied-whole, copied-nothing}
 use Rattle.scan.proofs.Orders.{data-inside}
-use Rattle.scan.proofs.Behind.{data-whole}
 use Rattle.feed.proofs.run.parts.take_data.Statement.{statement}
 use Rattle.feed.proofs.run.parts.take_data.Tie as tie
 
@@ -19,101 +21,63 @@ Inv-loop buf₀ stats bytes from kind len pos n j₀ buf j =
 abbrev μ-loop : tie.MeasureT-loop
 μ-loop buf₀ stats bytes from kind len pos n j₀ buf j = n - j
 
-sub-least : tie.Need-sub-least Inv-loop μ-loop
-sub-least c = omega (arith, data-inside linkLimit _ (c .before .pre .order) (c .before .pre .state))
+-- The function's entry, from where the state is known.
+abbrev entry : tie.After-enum-told Inv-loop μ-loop → tie.Start Inv-loop μ-loop
+entry c = c .before .before .before
 
-sub-least-2 : tie.Need-sub-least-2 Inv-loop μ-loop
-sub-least-2 c = omega (arith, c .before .pre .inside)
+start : (c : tie.After-enum-told Inv-loop μ-loop) → (let a = entry c .args in
+    AtState linkLimit Data (a .scan) (a .bytes .now) (a .from))
+start c = record { order = entry c .pre .0; state = c .enum-told .given .1; inside = entry c .pre .1 }
 
-due : (c : tie.After-least Inv-loop μ-loop)
-    → Due linkLimit (c .before .before .args .scan) (c .before .before .args .bytes .now)
-    (c .before .before .args .from)
-    (c .least .result)
-due c = least-due linkLimit _ _ _ _ (c .before .before .pre) (c .least .ensures)
+sub-min : tie.Need-sub-min Inv-loop μ-loop
+sub-min c = omega (arith, data-inside linkLimit _ (start c .order) (start c .state))
+
+due : (c : tie.After-min Inv-loop μ-loop) → (let a = entry (c .before) .args in
+    Due linkLimit (a .scan) (a .bytes .now) (a .from) (c .min .result))
+due c = min-due linkLimit _ _ _ _ (start (c .before)) (c .min .ensures)
 
 loop-holds : tie.Need-loop-holds Inv-loop μ-loop
-loop-holds c =
-    let a = c .before .before .args in (
-      omega arith,
-      copied-none linkLimit (a .scan .kind) (a .scan .len) (a .scan .pos) (a .stats) (a .buf .now)
-          (a .bytes .now) (a .from) (omega (arith, due c)),
-    )
-
-add-buf : tie.Need-add-buf Inv-loop μ-loop
-add-buf c = omega (arith, due (c .before .before))
-
-shared-slice-read-buf : tie.Need-shared-slice-read-buf Inv-loop μ-loop
-shared-slice-read-buf c = omega (arith, due (c .before .before .before))
-
-add-buf-2 : tie.Need-add-buf-2 Inv-loop μ-loop
-add-buf-2 c = omega (arith, due (c .before .before .before))
-
-element-write-buf : tie.Need-element-write-buf Inv-loop μ-loop
-element-write-buf c = omega (arith, due (c .before .before .before))
-
-add-j : tie.Need-add-j Inv-loop μ-loop
-add-j c = omega (arith, due (c .before .before .before))
-
-loop-less : tie.Need-loop-less Inv-loop μ-loop
-loop-less c = omega arith
+loop-holds c = (omega arith, copied-none linkLimit _ _ _ _ _ _ _ (omega (arith, due c)))
 
 loop-again : tie.Need-loop-again Inv-loop μ-loop
 loop-again c =
-    let a = c .before .before .before .before .before .args in
-    let l = c .before .before .loop in (
+    let l = c .before .before in (
       omega arith,
-      copied-more linkLimit (a .scan .kind) (a .scan .len) (a .scan .pos) (a .stats) (a .buf .now)
-          (a .bytes .now) (a .from) (l .buf) (l .j) (omega (arith, due (c .before .before .before)))
-          (omega (arith, due (c .before .before .before))) (l .inv .1),
+      copied-more linkLimit _ _ _ _ _ _ _ (l .loop .buf) (l .loop .j) (omega (arith, due (l .before)))
+          (omega (arith, due (l .before))) (l .loop .inv .1),
     )
 
-add-taken : tie.Need-add-taken Inv-loop μ-loop
-add-taken c = omega (arith, due (c .before .before))
-
-add-in-data : tie.Need-add-in-data Inv-loop μ-loop
-add-in-data c = omega (arith, due (c .before .before .before))
-
-copied : (c : tie.After-loop Inv-loop μ-loop)
-    → Copied linkLimit
-    (c .before .before .before .before .args .scan .kind)
-    (c .before .before .before .before .args .scan .len)
-    (c .before .before .before .before .args .scan .pos)
-    (c .before .before .before .before .args .stats)
-    (c .before .before .before .before .args .buf .now)
-    (c .before .before .before .before .args .bytes .now)
-    (c .before .before .before .before .args .from)
-    (c .before .loop .buf)
-    (c .before .before .least .result)
+copied : (c : tie.After-loop Inv-loop μ-loop) → (let n = c .before .before in
+    let a = entry (n .before) .args in
+    AllCopied linkLimit (a .scan) (a .stats) (a .buf .now) (a .bytes .now) (a .from) (c .before .loop .buf)
+    (n .min .result))
 copied c =
-    let all : c .before .loop .j ≡ c .before .before .least .result = omega arith in
-    rw (← all) (c .before .loop .inv .1)
+    let n = c .before .before in
+    let all : c .before .loop .j ≡ n .min .result = omega arith in
+    record { start = start (n .before); fewest = n .min .ensures; came = rw (← all) (c .before .loop .inv .1) }
+
+-- The number of `Data` among the states is 2, and those of the others are not.
+no-data : (_≡_ {A = ℕ} 2 0) ⊎ ((_≡_ {A = ℕ} 2 1) ⊎ (_≡_ {A = ℕ} 2 3)) → ⊥
+no-data = ⊎-elim (λ e. omega arith) (⊎-elim (λ e. omega arith) (λ e. omega arith))
 
 returns : tie.Need-returns Inv-loop μ-loop
 returns c =
-    let a = c .before .before .before .before .before .before .before .before .args in
-    rw (c .taking .ensures, c .before .went .ensures, c .before .before .in-data .ensures)
-    (copied-onward linkLimit (a .scan) (a .stats) (a .buf .now) (a .bytes .now) (a .from)
-    (c .before .before .before .before .before .before .before .before .pre) _ _
-    (due (c .before .before .before .before .before .before)) _ refl (copied (c .before .before .before .before)))
-
-whole : (c : tie.Else1 Inv-loop μ-loop)
-    → c .before .before .before .before .before .args .scan .len
-    ≤ c .before .before .before .before .before .args .scan .pos + c .before .before .before .least .result
-whole c = due-whole linkLimit (c .before .before .before .before .before .args .scan)
-    (c .before .before .before .before .before .args .bytes .now) _ _
-    (c .before .before .before .least .ensures) (due (c .before .before .before) .there) (c .if1 .left)
-
-take-tail-requires : tie.Need-take-tail-requires Inv-loop μ-loop
-take-tail-requires c κs = rw (c .in-tail .ensures)
-    (copied-stands linkLimit _ _ _ _ _ (c .before .before .before .before .before .before .pre) _ _
-    (due (c .before .before .before .before)) _ (data-whole _ _ _ (whole (c .before))) (copied (c .before .before))
-    refl (omega (arith, due (c .before .before .before .before))))
+    let other = c .before .before in
+    let s = other .before .before in
+    rw (c .taking .ensures, c .before .continued .ensures)
+    (copied-nothing linkLimit _ _ _ _ _ (s .pre .0) (s .pre .1) (λ e. no-data (rw e at (other .match .keys2))))
 
 returns-2 : tie.Need-returns-2 Inv-loop μ-loop
-returns-2 c = copied-then linkLimit _ _ _ _ _ (c .before .before .before .before .before .before .before .pre) _ _
-    (due (c .before .before .before .before .before)) _ (data-whole _ _ _ (whole (c .before .before)))
-    (copied (c .before .before .before)) _
-    (rw (c .before .in-tail .ensures) at (c .take-tail .ensures (c .before .before .before .before .loop .buf)))
+returns-2 c =
+    let scan = c .before .before in
+    rw (c .taking2 .ensures, c .before .continued2 .ensures, scan .in-data .ensures)
+    (copied-last (copied (scan .before .before)) (scan .before .if1 .taken))
+
+returns-3 : tie.Need-returns-3 Inv-loop μ-loop
+returns-3 c =
+    let scan = c .before .before in
+    rw (c .taking3 .ensures, c .before .continued3 .ensures, scan .in-tail .ensures)
+    (copied-whole (copied (scan .before .before)) (scan .before .if1 .left))
 
 pub take-data-spec : {M : Type 1} → statement M
 take-data-spec =
@@ -121,23 +85,28 @@ take-data-spec =
     (tie.spec
     Inv-loop
     μ-loop
-    sub-least
-    sub-least-2
-    (λ c κs. search needs)
-    loop-holds
-    add-buf
-    shared-slice-read-buf
-    add-buf-2
-    element-write-buf
-    add-j
-    loop-less
-    loop-again
-    add-taken
-    add-in-data
-    (λ c κs. search needs)
+    (λ c. search needs)
     (λ c κs. search needs)
     (λ c κs. search needs)
     returns
+    sub-min
+    (λ c. omega (arith, start c .inside))
     (λ c κs. search needs)
-    take-tail-requires
-    returns-2)
+    loop-holds
+    (λ c. omega (arith, due (c .before .before)))
+    (λ c. omega (arith, due (c .before .before .before)))
+    (λ c. omega (arith, due (c .before .before .before)))
+    (λ c. omega (arith, due (c .before .before .before)))
+    (λ c. omega (arith, due (c .before .before .before)))
+    (λ c. omega arith)
+    loop-again
+    (λ c. omega (arith, due (c .before .before)))
+    (λ c. omega (arith, due (c .before .before .before)))
+    (λ c κs. search needs)
+    (λ c κs. search needs)
+    (λ c κs. search needs)
+    (λ c κs. search needs)
+    (λ c κs. search needs)
+    (λ c κs. search needs)
+    returns-2
+    returns-3)

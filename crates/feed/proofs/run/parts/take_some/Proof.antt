@@ -1,30 +1,23 @@
--- `feed::parts::take_some` meets its contract, since what each state takes does. Assumes nothing.
+-- `feed::parts::take_some` meets its contract: the data bytes, and the part after them. Assumes nothing.
 use borrow.Author.Needs.{needs}
+use Rattle.feed.proofs.Copies.{data-last, data-then, data-here, data-past}
 use Rattle.feed.proofs.run.parts.take_some.Statement.{statement}
 use Rattle.feed.proofs.run.parts.take_some.Tie as tie
 
 returns : tie.Need-returns
-returns c = c .take-header .ensures _
+returns c =
+    let taken = c .before .before in
+    data-last (taken .take-data .ensures) (taken .before .before .before .pre .1) (c .if1 .taken)
+
+take-part-requires : tie.Need-take-part-requires
+take-part-requires c κs =
+    let taken = c .before .before .before .take-data .ensures in
+    (data-here taken (c .before .if1 .left), data-past taken (c .before .if1 .left))
 
 returns-2 : tie.Need-returns-2
-returns-2 c = c .take-len .ensures _
-
-returns-4 : tie.Need-returns-4
-returns-4 c = c .take-tail .ensures _
+returns-2 c =
+    let more = c .before .before in
+    data-then (more .before .before .take-data .ensures) (c .take-part .ensures _)
 
 pub take-some-spec : {M : Type 1} → statement M
-take-some-spec =
-    tie.close
-    (tie.spec
-    (λ c. search needs)
-    (λ c κs. search needs)
-    (λ c. search needs)
-    (λ c κs. search needs)
-    (λ c. search needs)
-    (λ c κs. search needs)
-    (λ c. search needs)
-    (λ c κs. search needs)
-    returns
-    returns-2
-    (λ c. search needs)
-    returns-4)
+take-some-spec = tie.close (tie.spec (λ c κs. search needs) returns take-part-requires returns-2)

@@ -1,10 +1,10 @@
--- `reply::Parameters::gates` meets its contract, as `least` says. Assumes nothing.
+-- `reply::Parameters::gates` meets its contract, as `min` says. Assumes nothing.
 use borrow.Author.Needs.{needs}
 use Rattle.reply.proofs.parameters.Parameters.gates.Statement.{statement}
 use Rattle.reply.proofs.parameters.Parameters.gates.Tie as tie
 
 returns : tie.Need-returns
-returns c = c .least .ensures
+returns c = c .min .ensures
 
 pub gates-spec : {M : Type 1} → statement M
 gates-spec = tie.close (tie.spec (λ c. search needs) (λ c. search needs) (λ c κs. search needs) returns)
