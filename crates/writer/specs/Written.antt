@@ -9,8 +9,8 @@
 --   numberOfWrite r           its number, 0 where nothing is refused
 --   WriteCauses k Bad f n r   each number is given by the answer r exactly in its cause, k to a bad value; and what is
 --                             returned beside it
---   framable d, frameRefusal d   "that many data bytes, 0 to 65,535": no length can say more. This refusal is not in
---                             document 01's table: no writer of the link frames so much
+--   framable d, frameRefusal d   "that many data bytes, 0 to 65,535": more are "a value that the reader can't give";
+--                             no writer of the link frames so much
 use mathlib.Core.Path.{_≡_}
 use mathlib.Core.Logic.{_↔_, _⊎_}
 use mathlib.Core.List.{List, _++_}

@@ -27,8 +27,8 @@ pub enum WriteResult {
 }
 
 // Puts the frame of a family with the data at the front: header, length, data, tail. Refuses with 6 data that no length
-// can say, then with 4 a buffer shorter than the frame. Bytes after the frame stay. It is public for the other crates
-// of the link alone: document 01's table does not have this 6, and no writer of the link frames so much.
+// can say, since no reader gives them, then with 4 a buffer shorter than the frame. Bytes after the frame stay. It is
+// public for the other crates of the link alone, and no writer of the link frames so much.
 pub fn put_frame(out: &mut [u8], kind: Kind, data: &[u8]) -> WriteResult
     ensures told { λ r. ⌜ r ≡ writeResult (frameRefusal (now («data» .entry))) (framed kind (now («data» .entry)))
         (length (now (out .entry))) ⌝ }
