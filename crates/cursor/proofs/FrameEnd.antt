@@ -25,18 +25,15 @@ use denote.Builtin.{u8, usize}
 use denote.Slice.{sliceVal, MutSlice}
 use denote.Steps.{owned, peeks}
 use denote.Enum.Laws as EL
-use denote.Struct.Laws as LL
 use denote.Triple.Statement.{Contract, Triple}
 use Rattle.writer.specs.declared.WriteResult.{WriteResult}
 use Rattle.writer.proofs.WriteResult as Y
 use Rattle.writer.proofs.WriteResult.Laws as Y′
 use Rattle.cursor.specs.declared.Cursor.{Cursor}
-use Rattle.cursor.proofs.Cursor as T
 use Rattle.cursor.proofs.Cursor.Laws as T′
 use Rattle.cursor.proofs.Steps.{at-local, Told, calls-told}
 use Rattle.cursor.proofs.Held.{R, mach, pos-fits, needed-fits, parted, Has}
 use Rattle.cursor.specs.CommandFrame.{wholeAt}
-use Rattle.cursor.proofs.command_frame.whole as told
 use Rattle.cursor.proofs.command_frame.whole.Symbol.{name as #whole}
 
 -- the answer by the cursor c, whose position and bytes needed are read into p and n

@@ -22,9 +22,6 @@ use types.SemTy.{Body as Held-by}
 use denote.Memory.{mem}
 use denote.Ref.{RefT}
 use denote.Slice.{sliceVal, sliceName}
-use denote.Struct.Laws as LL
-use Rattle.writer.proofs.puts.Placed as S
-use Rattle.writer.proofs.puts.Placed.Laws as S′
 use Rattle.writer.proofs.WriteResult as Y
 use Rattle.cursor.specs.declared.Cursor.{Cursor}
 use Rattle.cursor.specs.Held.{told, moved}

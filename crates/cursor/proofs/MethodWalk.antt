@@ -27,7 +27,6 @@ use denote.Ref.{RefT, MutRef}
 use denote.Slice.{MutSlice}
 use denote.Steps.{opens, peeks}
 use denote.Enum.Laws as EL
-use denote.Struct.Laws as LL
 use denote.Triple.Statement.{Triple}
 use denote.Triple.Call.{calls-from}
 use Rattle.writer.specs.Put.{putIn}
@@ -36,8 +35,6 @@ use Rattle.writer.proofs.puts.Placed.Laws as S′
 use Rattle.writer.proofs.WriteResult.Laws as Y′
 use Rattle.cursor.specs.declared.Cursor.{Cursor}
 use Rattle.cursor.specs.Held.{puts}
-use Rattle.cursor.proofs.Cursor as T
-use Rattle.cursor.proofs.Cursor.Laws as T′
 use Rattle.cursor.proofs.Again.{LentAgain, lends-again, comes-back}
 use Rattle.cursor.proofs.Steps.{at-local}
 use Rattle.cursor.proofs.after.Symbol.{name as #after}

@@ -1,5 +1,5 @@
 -- The head of a parameters payload: when it fits, and what it is read as.
-use mathlib.Core.Path.{_≡_, refl, sym, _∙_}
+use mathlib.Core.Path.{_≡_, sym, _∙_}
 use mathlib.Core.List.{List}
 use mathlib.Core.Bool.{true, false, and-false}
 use Prim.Native.Nat.{ℕ, _+_, _≤_, _<_}

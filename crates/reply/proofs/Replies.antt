@@ -3,13 +3,10 @@
 use mathlib.Core.Path.{_≡_, refl, sym, _∙_}
 use mathlib.Core.List.{List}
 use Prim.Native.Nat.{ℕ, _≤_, _<_}
-use native.Mathlib.Omega.{arith}
 use lib.ListN.{length, replicate}
 use Rattle.wire.specs.Number.{le16At, le32At}
 use Rattle.wire.specs.Prefix.{prefixed}
-use Rattle.wire.specs.declared.number.MaybeU16.{MaybeU16}
 use Rattle.wire.specs.declared.number.MaybeU16.the-variants as U16
-use Rattle.wire.specs.declared.number.MaybeU32.{MaybeU32}
 use Rattle.wire.specs.declared.number.MaybeU32.the-variants as U32
 use Rattle.wire.proofs.Numbers.{two, four, read-some}
 use Rattle.wire.proofs.Prefixes.{prefixed-full}

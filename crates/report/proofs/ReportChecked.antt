@@ -9,7 +9,7 @@ use Rattle.refusal.specs.Refusal.{beside, returned}
 use Rattle.refusal.specs.Check.{firstFailed, outcomeOf, Causes}
 use Rattle.refusal.proofs.Checks.{causes}
 use Rattle.refusal.specs.declared.Check.{Check}
-use Rattle.refusal.specs.declared.Check.the-variants.{R6, R7, R8}
+use Rattle.refusal.specs.declared.Check.the-variants.{R6, R7}
 use Rattle.refusal.specs.declared.MaybeCheck.{MaybeCheck}
 use Rattle.refusal.specs.declared.MaybeCheck.the-variants.{Some, None}
 use Rattle.engineering.specs.Block.{checkedBlock, noEngineering}
