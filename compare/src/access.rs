@@ -3,6 +3,50 @@
 pub mod access {
     use super::{Kind, Parser, State, Stats, MAX_FRAME};
 
+    /// Where the original's counters stop.
+    pub const ORIGINAL_MAX: u64 = 4_294_967_295;
+
+    /// The four counters, as wide as ours.
+    #[derive(Clone, Copy, PartialEq, Eq)]
+    pub struct Counters {
+        pub frames: u64,
+        pub resyncs: u64,
+        pub dropped: u64,
+        pub malformed: u64,
+    }
+
+    impl Counters {
+        /// All four at one number.
+        #[must_use]
+        pub const fn all(counter: u64) -> Self {
+            Self { frames: counter, resyncs: counter, dropped: counter, malformed: counter }
+        }
+
+        /// The original's counters.
+        #[must_use]
+        pub fn of(stats: Stats) -> Self {
+            let Stats { frames, resyncs, dropped, malformed } = stats;
+            Self {
+                frames: frames.into(),
+                resyncs: resyncs.into(),
+                dropped: dropped.into(),
+                malformed: malformed.into(),
+            }
+        }
+
+        /// As the original is given them: each lowered to where its own stop.
+        #[must_use]
+        pub fn lowered(self) -> Stats {
+            let lowered = |counter: u64| counter.min(ORIGINAL_MAX) as u32;
+            Stats {
+                frames: lowered(self.frames),
+                resyncs: lowered(self.resyncs),
+                dropped: lowered(self.dropped),
+                malformed: lowered(self.malformed),
+            }
+        }
+    }
+
     /// Every field of a parser.
     #[derive(Clone)]
     pub struct Fields {
@@ -13,11 +57,11 @@ pub mod access {
         pub matched: usize,
         pub len: usize,
         pub pos: usize,
-        pub stats: Stats,
+        pub counters: Counters,
         pub buf: [u8; MAX_FRAME],
     }
 
-    /// The parser with exactly these fields; none for a state or kind that has no number.
+    /// The parser with these fields, its counters lowered; none for a state or kind that has no number.
     #[must_use]
     pub fn parser(fields: &Fields) -> Option<Parser> {
         let state = match fields.state {
@@ -39,7 +83,7 @@ pub mod access {
             matched: fields.matched,
             len: fields.len,
             pos: fields.pos,
-            stats: fields.stats,
+            stats: fields.counters.lowered(),
         })
     }
 

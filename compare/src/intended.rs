@@ -9,7 +9,7 @@ pub struct Intended {
     pub reason: &'static str,
 }
 
-/// Empty: the base answers everything as the original does.
+/// Empty: once its counters are lowered, everything is answered as the original answers it.
 pub const TABLE: &[Intended] = &[];
 
 /// The place in a table of the entry that a case belongs to.

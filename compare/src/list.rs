@@ -9,6 +9,7 @@ use std::io;
 use std::path::Path;
 
 use crate::case::Case;
+use crate::expected::{self, beside_original, is_script};
 use crate::generate::random::Random;
 use crate::oracle;
 
@@ -34,21 +35,34 @@ pub fn arguments(op: u8) -> Vec<Vec<u8>> {
     }
 }
 
-/// Writes the list of these ops to `stdin` and its answers to `stdout` in a directory. Its last case is cut short.
+/// Writes the list of these ops to `stdin` and its answers to `stdout` in a directory. Its last case is cut short. Nothing
+/// is written where a script's answer, its counters lowered, is not the original's.
 pub fn write(directory: &Path, ops: &[u8]) -> io::Result<bool> {
     let mut input = Vec::new();
     for &op in ops {
         for argument in arguments(op) {
-            Case { op, argument: &argument }.write(&mut input);
+            let case = Case { op, argument: &argument };
+            if !agreed(case) {
+                return Err(io::Error::other(format!("the model and the original disagree on a case of op {op}")));
+            }
+            case.write(&mut input);
         }
     }
     Case { op: 0, argument: &[] }.write(&mut input);
     input.extend([1, 2, 0, 0, 0, 3]);
-    let answers = oracle::answers(&input);
+    let answers = expected::answers(&input);
     fs::create_dir_all(directory)?;
     fs::write(directory.join("stdin"), &input)?;
     fs::write(directory.join("stdout"), &answers)?;
     let lines = answers.iter().filter(|&&byte| byte == b'\n').count();
     println!("{} bytes of cases, {lines} lines of answers", input.len());
     Ok(true)
+}
+
+/// Whether the expected answer is the original's, once its counters are lowered.
+fn agreed(case: Case<'_>) -> bool {
+    let (mut answer, mut original) = (Vec::new(), Vec::new());
+    expected::answer(case, &mut answer);
+    oracle::answer(case, &mut original);
+    original == if is_script(case.op) { beside_original(&answer) } else { answer }
 }

@@ -2,6 +2,7 @@
 
 mod case;
 mod compare;
+mod expected;
 mod generate;
 mod intended;
 mod line;
@@ -59,6 +60,6 @@ fn run(options: &Options) -> io::Result<bool> {
 fn answer_standard_input() -> io::Result<bool> {
     let mut input = Vec::new();
     io::stdin().read_to_end(&mut input)?;
-    io::stdout().write_all(&oracle::answers(&input))?;
+    io::stdout().write_all(&expected::answers(&input))?;
     Ok(true)
 }

@@ -7,8 +7,11 @@ mod streams;
 mod writers;
 
 use crate::case::Case;
+use crate::expected;
 use crate::model::streams::{self as streams_model, Rules};
-use crate::oracle;
+
+/// Numbers of a closing line; a call's line has more.
+const CLOSING: usize = 6;
 
 pub struct Mutant {
     pub op: u8,
@@ -59,7 +62,7 @@ impl Mutant {
             Wrong::Argument(edit) => {
                 let (mut argument, mut answer) = (case.argument.to_vec(), Vec::new());
                 edit(&mut argument);
-                oracle::answer(Case { op: case.op, argument: &argument }, &mut answer);
+                expected::answer(Case { op: case.op, argument: &argument }, &mut answer);
                 answer != expected
             }
             Wrong::Rules(rules) => {
@@ -98,7 +101,7 @@ fn numbers_of(answer: &[u8]) -> Vec<Vec<u64>> {
 /// The numbers of the right answer to an argument, line by line.
 fn right(op: u8, argument: &[u8]) -> Vec<Vec<u64>> {
     let mut answer = Vec::new();
-    oracle::answer(Case { op, argument }, &mut answer);
+    expected::answer(Case { op, argument }, &mut answer);
     numbers_of(&answer)
 }
 

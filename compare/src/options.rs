@@ -7,7 +7,7 @@ use crate::generate::OPS;
 pub const USAGE: &str = "\
 usage: compare/run [--original FILE] [options]
   without a mode          run the generated cases through our program and hold its answers against the original's
-  --self-check            hold wrong variants against the original: each must be noticed
+  --self-check            hold wrong variants against the right answers: each must be noticed
   --write-list DIR        write the fixed list of cases and answers to DIR/stdin and DIR/stdout
   --answer                answer the cases on standard input, as our program does
 options

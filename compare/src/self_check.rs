@@ -1,11 +1,11 @@
-//! The check of the comparison itself: wrong variants held against the original over the generated cases and over
+//! The check of the comparison itself: wrong variants held against the right answers over the generated cases and over
 //! the fixed list. Both must notice each of them.
 
 use crate::case::Case;
+use crate::expected;
 use crate::generate;
 use crate::list;
 use crate::mutants::{self, Mutant};
-use crate::oracle;
 
 /// How many cases it took to notice each of the variants.
 struct Watch<'a> {
@@ -25,7 +25,7 @@ impl<'a> Watch<'a> {
             return;
         }
         let mut expected = Vec::new();
-        oracle::answer(case, &mut expected);
+        expected::answer(case, &mut expected);
         for (mutant, noticed) in self.mutants.iter().zip(&mut self.noticed) {
             if noticed.is_none() && mutant.differs(case, &expected) {
                 *noticed = Some(self.cases);

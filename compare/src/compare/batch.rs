@@ -7,21 +7,33 @@ use std::thread;
 
 use super::tally::Tally;
 use crate::case::Case;
-use crate::model::streams::{self, RULES};
+use crate::expected::{self, beside_original, is_script, lowered};
 use crate::oracle;
+
+/// Where a case's argument starts in a batch's input, and where it, its answers and the original's answers end.
+struct Ends {
+    start: usize,
+    end: usize,
+    answers: usize,
+    original: usize,
+}
 
 pub struct Batch {
     op: u8,
     input: Vec<u8>,
+    /// What our program must print.
     expected: Vec<u8>,
-    /// Where each case's argument starts in the input, and where its argument and its answers end.
-    ends: Vec<(usize, usize, usize)>,
-    modelled: Vec<u8>,
+    /// The original's answers to scripts: ours must be these once its counters are lowered.
+    original: Vec<u8>,
+    ends: Vec<Ends>,
+    /// Whether the model's answers are the original's.
+    agreed: bool,
 }
 
 impl Batch {
     pub fn new(op: u8) -> Self {
-        Self { op, input: Vec::new(), expected: Vec::new(), ends: Vec::new(), modelled: Vec::new() }
+        let (input, expected, original, ends) = (Vec::new(), Vec::new(), Vec::new(), Vec::new());
+        Self { op, input, expected, original, ends, agreed: true }
     }
 
     pub fn bytes(&self) -> usize {
@@ -30,27 +42,28 @@ impl Batch {
 
     pub fn add(&mut self, argument: &[u8], tally: &mut Tally) {
         let case = Case { op: self.op, argument };
-        let answered = self.expected.len();
+        let (before, original_before) = (self.expected.len(), self.original.len());
         case.write(&mut self.input);
-        oracle::answer(case, &mut self.expected);
-        let end = self.input.len();
-        self.ends.push((end - argument.len(), end, self.expected.len()));
-        if matches!(self.op, 10 | 11 | 13) {
-            self.hold_model(case, answered, tally);
+        let modelled = expected::answer(case, &mut self.expected);
+        if is_script(self.op) {
+            oracle::answer(case, &mut self.original);
         }
+        if modelled {
+            self.hold_model(case, before, original_before, tally);
+        }
+        let end = self.input.len();
+        let (answers, original) = (self.expected.len(), self.original.len());
+        self.ends.push(Ends { start: end - argument.len(), end, answers, original });
     }
 
-    /// Holds the model of the division against the original's answer, which starts at `answered`.
-    fn hold_model(&mut self, case: Case<'_>, answered: usize, tally: &mut Tally) {
-        self.modelled.clear();
-        if streams::answer(case, &RULES, &mut self.modelled).is_none() {
-            return;
-        }
+    /// Holds the model's answer to a script against the original's, which begin at these places.
+    fn hold_model(&mut self, case: Case<'_>, model: usize, original: usize, tally: &mut Tally) {
         tally.modelled += 1;
-        let original = &self.expected[answered..];
-        if original != self.modelled {
-            let (original, model) = first_differing_lines(original, &self.modelled);
+        let (model, original) = (beside_original(&self.expected[model..]), &self.original[original..]);
+        if model != original {
+            let (original, model) = first_differing_lines(original, &model);
             tally.model_difference(case, original, model);
+            self.agreed = false;
         }
     }
 
@@ -62,31 +75,44 @@ impl Batch {
         let got = answers_of(program, &self.input)?;
         tally.cases += self.ends.len() as u64;
         tally.lines += lines(&self.expected).count() as u64;
-        if got != self.expected {
+        if got != self.expected || !self.agreed {
             self.differences(&got, tally);
         }
-        self.input.clear();
-        self.expected.clear();
-        self.ends.clear();
+        *self = Self::new(self.op);
         tally.progress();
         Ok(())
     }
 
     fn differences(&self, got: &[u8], tally: &mut Tally) {
         let mut got = lines(got);
-        let mut answered = 0;
-        for &(start, end, answers_end) in &self.ends {
-            let case = Case { op: self.op, argument: &self.input[start..end] };
-            for expected in lines(&self.expected[answered..answers_end]) {
-                let line = got.next();
-                if line != Some(expected) {
+        let (mut answered, mut original) = (0, 0);
+        for ends in &self.ends {
+            let case = Case { op: self.op, argument: &self.input[ends.start..ends.end] };
+            let expected: Vec<_> = lines(&self.expected[answered..ends.answers]).collect();
+            let ours: Vec<_> = expected.iter().map(|_| got.next()).collect();
+            for (&expected, line) in expected.iter().zip(&ours) {
+                if *line != Some(expected) {
                     tally.difference(Some(case), text(expected), line.map_or("nothing", text));
                 }
             }
-            answered = answers_end;
+            if is_script(self.op) {
+                hold_original(case, &ours, &self.original[original..ends.original], tally);
+            }
+            (answered, original) = (ends.answers, ends.original);
         }
         for surplus in got {
             tally.difference(None, "nothing", text(surplus));
+        }
+    }
+}
+
+/// Holds our answer to a script, its counters lowered, against the original's.
+fn hold_original(case: Case<'_>, ours: &[Option<&[u8]>], original: &[u8], tally: &mut Tally) {
+    let last = ours.len() - 1;
+    for (place, (original, line)) in lines(original).zip(ours).enumerate() {
+        let shown = line.map(|line| if place == last { lowered(line) } else { line.to_vec() });
+        if shown.as_deref() != Some(original) {
+            tally.difference(Some(case), text(original), shown.as_deref().map_or("nothing", text));
         }
     }
 }

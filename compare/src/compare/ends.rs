@@ -6,7 +6,7 @@ use std::path::Path;
 use super::batch::answers_of;
 use super::tally::Tally;
 use crate::case::{Case, LONGEST};
-use crate::oracle;
+use crate::expected;
 
 /// Ops outside the table; from 20 on they belong to later requests.
 const NO_OPS: [u8; 7] = [0, 15, 16, 17, 18, 19, 255];
@@ -15,7 +15,7 @@ const NO_OPS: [u8; 7] = [0, 15, 16, 17, 18, 19, 255];
 pub fn compare(program: &Path) -> io::Result<Tally> {
     let mut tally = Tally::new(0);
     for input in inputs() {
-        let expected = oracle::answers(&input);
+        let expected = expected::answers(&input);
         let got = answers_of(program, &input)?;
         tally.cases += 1;
         tally.lines += expected.iter().filter(|&&byte| byte == b'\n').count() as u64;

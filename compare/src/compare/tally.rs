@@ -13,6 +13,8 @@ pub struct Tally {
     pub op: u8,
     pub cases: u64,
     pub lines: u64,
+    /// Lines of ours that are not the expected ones, and those of scripts that, lowered, are not the original's: one line
+    /// may count for both.
     pub differences: u64,
     /// Scripts held against the model of the division, and how many of them differed.
     pub modelled: u64,

@@ -1,7 +1,7 @@
-//! Op 13: parsers built by hand, in range and out of it, with counters up to their maximum, and scripts on them.
+//! Op 13: parsers built by hand, in range and out of it, with counters around where 32 bits and 64 bits end, and scripts
+//! on them.
 
-use ld2410::access::Fields as ParserFields;
-use ld2410::Stats;
+use ld2410::access::{Counters, Fields as ParserFields, ORIGINAL_MAX};
 
 use super::frames::{framed, good_frame};
 use super::random::Random;
@@ -14,7 +14,20 @@ use crate::script::{script, Call};
 /// Numbers around every bound on a field, up to the largest.
 const MATCHED: [usize; 9] = [0, 1, 2, 3, 4, 5, 255, usize::MAX / 2, usize::MAX];
 const LENGTHS: [usize; 16] = [0, 1, 2, 3, 13, 53, 54, 55, 56, 64, 65, 255, 256, 65_535, usize::MAX - 1, usize::MAX];
-const COUNTERS: [u32; 8] = [0, 0, 1, 1000, u32::MAX - 23, u32::MAX - 1, u32::MAX, u32::MAX];
+const COUNTERS: [u64; 12] = [
+    0,
+    0,
+    1,
+    1000,
+    ORIGINAL_MAX - 23,
+    ORIGINAL_MAX - 1,
+    ORIGINAL_MAX,
+    ORIGINAL_MAX + 1,
+    ORIGINAL_MAX << 20,
+    u64::MAX - 23,
+    u64::MAX - 1,
+    u64::MAX,
+];
 
 /// An argument of op 13.
 pub fn argument(parser: &ParserFields, script: &[u8]) -> Vec<u8> {
@@ -22,7 +35,7 @@ pub fn argument(parser: &ParserFields, script: &[u8]) -> Vec<u8> {
     for number in [parser.matched, parser.len, parser.pos] {
         argument.extend((number as u64).to_le_bytes());
     }
-    let Stats { frames, resyncs, dropped, malformed } = parser.stats;
+    let Counters { frames, resyncs, dropped, malformed } = parser.counters;
     for counter in [frames, resyncs, dropped, malformed] {
         argument.extend(counter.to_le_bytes());
     }
@@ -64,13 +77,13 @@ fn any_fields(random: &mut Random) -> ParserFields {
         matched: random.pick(&MATCHED),
         len: random.pick(&LENGTHS),
         pos: random.pick(&LENGTHS),
-        stats: counters(random),
+        counters: counters(random),
         buf: random.array(),
     }
 }
 
-fn counters(random: &mut Random) -> Stats {
-    Stats {
+fn counters(random: &mut Random) -> Counters {
+    Counters {
         frames: random.pick(&COUNTERS),
         resyncs: random.pick(&COUNTERS),
         dropped: random.pick(&COUNTERS),
@@ -81,6 +94,7 @@ fn counters(random: &mut Random) -> Stats {
 pub fn built_parser_cases(cases: &mut Cases<'_>) {
     every_field(&mut |argument| cases.add(argument));
     every_place_of_a_frame(cases);
+    counters_around_their_ends(cases);
     unknown_states_and_kinds(cases);
     let whole = argument(&any_fields(&mut cases.random), &[2, 0, 0xF4]);
     for length in 0..whole.len() {
@@ -102,11 +116,54 @@ fn every_field(emit: &mut dyn FnMut(&[u8])) {
         for matched in MATCHED {
             for len in LENGTHS {
                 for pos in positions(len) {
-                    let stats = Stats { frames: u32::MAX, resyncs: 7, dropped: u32::MAX - 30, malformed: 0 };
-                    let parser = ParserFields { state, kind, matched, len, pos, stats, buf: [0xAA; 64] };
+                    let counters = Counters { frames: u64::MAX, resyncs: 7, dropped: ORIGINAL_MAX - 30, malformed: 0 };
+                    let parser = ParserFields { state, kind, matched, len, pos, counters, buf: [0xAA; 64] };
                     scripts.iter().for_each(|script| emit(&argument(&parser, script)));
                 }
             }
+        }
+    }
+}
+
+/// A fresh parser whose four counters hold this.
+pub fn counting_from(counter: u64) -> ParserFields {
+    let counters = Counters::all(counter);
+    ParserFields { state: 0, kind: 0, matched: 0, len: 0, pos: 0, counters, buf: [0; 64] }
+}
+
+/// Broken starts of every length that one can have, each with the byte that breaks it: after a part of the header; after the
+/// first byte of a bad length; after the data, or a part of the tail. A header goes on with any byte, and data with any.
+pub fn broken_starts() -> Vec<Vec<u8>> {
+    let mut all = Vec::new();
+    for family in [REPORT, COMMAND] {
+        all.extend((1..4).map(|matched| [&family.header[..matched], &[0x00]].concat()));
+        all.push([&family.header[..], &[0x01, 0x00]].concat());
+        for (length, matched) in (2..=54).map(|length| (length, 0)).chain([(54, 1), (54, 2), (54, 3)]) {
+            let mut broken = family.frame(&vec![0x5A; length]);
+            broken.truncate(6 + length + matched);
+            broken.push(0x00);
+            all.push(broken);
+        }
+    }
+    all
+}
+
+/// All four counters at and around the largest numbers of 32 and of 64 bits, and every kind of piece that counts, by bytes
+/// and by a slice.
+fn counters_around_their_ends(cases: &mut Cases<'_>) {
+    let mut pieces = broken_starts();
+    pieces.extend([
+        vec![0x00],
+        vec![0x00; 3],
+        published::bytes(published::B),
+        published::bytes(published::COMMANDS[1]),
+    ]);
+    let starts = [ORIGINAL_MAX, u64::MAX].into_iter().flat_map(|end| end - 66..=end.saturating_add(3));
+    for start in starts {
+        let parser = counting_from(start);
+        for piece in &pieces {
+            cases.add(&argument(&parser, &by_bytes(piece)));
+            cases.add(&argument(&parser, &script(&[Call::Slice(piece)])));
         }
     }
 }

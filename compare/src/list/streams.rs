@@ -1,11 +1,10 @@
 //! Listed cases of ops 10, 11 and 13.
 
-use ld2410::access::Fields as ParserFields;
-use ld2410::Stats;
+use ld2410::access::{Counters, Fields as ParserFields, ORIGINAL_MAX};
 
 use crate::generate::acks::ack_data;
 use crate::generate::damage::plain_damage;
-use crate::generate::parsers::{argument, after};
+use crate::generate::parsers::{after, argument, broken_starts, counting_from};
 use crate::generate::random::Random;
 use crate::generate::streams::{base_streams, by_bytes, by_slices, mixed_calls, stream};
 use crate::model::families::{COMMAND, REPORT};
@@ -101,7 +100,7 @@ pub fn built_parsers(random: &mut Random) -> Vec<Vec<u8>> {
         matched: 0,
         len: 0,
         pos: 0,
-        stats: Stats { frames: 1, resyncs: 2, dropped: u32::MAX - 30, malformed: 4 },
+        counters: Counters { frames: 1, resyncs: 2, dropped: ORIGINAL_MAX - 30, malformed: 4 },
         buf: random.array(),
     };
     let mut all = out_of_range(&fresh);
@@ -112,18 +111,33 @@ pub fn built_parsers(random: &mut Random) -> Vec<Vec<u8>> {
             all.push(argument(&parser, &script(&[Call::Slice(&frame[taken..]), Call::Slice(&b)])));
         }
     }
-    for most in [u32::MAX - 1, u32::MAX] {
-        let stats = Stats { frames: most, resyncs: most, dropped: most, malformed: most };
-        let parser = ParserFields { stats, ..fresh.clone() };
-        let malformed = published::bytes(published::COMMANDS[1]);
-        let calls = [Call::Slice(&b), Call::Slice(&malformed), Call::Slice(&[0xF4, 0xF4, 0x00, 0x00])];
-        all.push(argument(&parser, &script(&[calls, calls].concat())));
-    }
+    all.extend(counters_around_their_ends(&b));
     for (state, kind) in [(4, 0), (255, 0), (0, 2), (3, 255)] {
         all.push(argument(&ParserFields { state, kind, ..fresh.clone() }, &[]));
     }
     let whole = argument(&fresh, &[]);
-    all.extend([0, 1, 2, 10, 105].map(|length| whole[..length].to_vec()));
+    all.extend([0, 1, 2, 10, 121].map(|length| whole[..length].to_vec()));
+    all
+}
+
+/// All four counters around the largest numbers of 32 and of 64 bits: each counted up by every kind of piece, and a broken
+/// start of every length that ends at the largest number or passes it.
+fn counters_around_their_ends(b: &[u8]) -> Vec<Vec<u8>> {
+    let mut all = Vec::new();
+    let malformed = published::bytes(published::COMMANDS[1]);
+    let calls = [Call::Slice(b), Call::Slice(&malformed), Call::Slice(&[0xF4, 0xF4, 0x00]), Call::Feed(0x00)];
+    for end in [ORIGINAL_MAX, u64::MAX] {
+        for start in end - 2..=end.saturating_add(1) {
+            all.push(argument(&counting_from(start), &script(&[calls, calls].concat())));
+        }
+        for broken in broken_starts() {
+            let start = end - broken.len() as u64;
+            all.push(argument(&counting_from(start), &script(&[Call::Slice(&broken)])));
+            all.push(argument(&counting_from(start + 1), &script(&[Call::Slice(&broken)])));
+        }
+        let shortest = &broken_starts()[0];
+        all.extend((end - 3..=end).map(|start| argument(&counting_from(start), &by_bytes(shortest))));
+    }
     all
 }
 

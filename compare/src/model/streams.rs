@@ -1,8 +1,8 @@
 //! The answers to a script by the division of document 01: what each call takes and delivers, the counters as sums
 //! over pieces, and the unfinished length.
 
-use ld2410::access::Fields as ParserFields;
-use ld2410::{Frame, Parser, Stats};
+use ld2410::access::{Counters, Fields as ParserFields};
+use ld2410::Frame;
 use std::ops::Range;
 
 use super::division::{next_piece, Piece, LIMIT};
@@ -18,35 +18,35 @@ pub struct Rules {
     /// The piece at the front of the rest of a stretch, and its length.
     pub next_piece: fn(&[u8]) -> (Piece, usize),
     /// A counter after that many more.
-    pub add: fn(u32, usize) -> u32,
+    pub add: fn(u64, usize) -> u64,
     /// Whether a parser built by hand is taken as it stands.
     pub in_range: fn(&ParserFields) -> bool,
 }
 
-/// Document 01's rules.
+/// Document 01's rules, and the counters of document 02, item 1.
 pub const RULES: Rules = Rules {
     next_piece: |rest| next_piece(rest, LIMIT),
-    add: |counter, by| (u64::from(counter) + by as u64).min(u32::MAX.into()) as u32,
+    add: |counter, by| (u128::from(counter) + by as u128).min(u64::MAX.into()) as u64,
     in_range,
 };
 
 /// Appends the answer lines of a script of ops 10, 11 and 13; none for a parser that cannot be built.
 pub fn answer(case: Case<'_>, rules: &Rules, out: &mut Vec<u8>) -> Option<()> {
-    let (pending, stats, script) = if case.op == 13 {
+    let (pending, counters, script) = if case.op == 13 {
         let (parser, script) = built_parser(case.argument)?;
         if parser.state > 3 || parser.kind > 1 {
             return None;
         }
-        (pending(&parser, rules), parser.stats, script)
+        (pending(&parser, rules), parser.counters, script)
     } else {
-        (Vec::new(), Parser::new().stats(), case.argument)
+        (Vec::new(), Counters::all(0), case.argument)
     };
     let mut stream = Stream { rules, stretches: vec![pending], divided: 0 };
     for call in calls(script) {
         stream.call(case.op, call, out);
     }
-    let (stats, unfinished) = stream.totals(stats);
-    closing_line(case.op, stats, unfinished, out);
+    let (counters, unfinished) = stream.totals(counters);
+    closing_line(case.op, counters, unfinished, out);
     Some(())
 }
 
@@ -117,7 +117,7 @@ impl Stream<'_> {
     }
 
     /// The counters, summed over the pieces of every stretch, and the length of the last one's unfinished end.
-    fn totals(&self, mut stats: Stats) -> (Stats, usize) {
+    fn totals(&self, mut counters: Counters) -> (Counters, usize) {
         let add = self.rules.add;
         let mut unfinished = 0;
         for stretch in &self.stretches {
@@ -126,21 +126,21 @@ impl Stream<'_> {
             while !rest.is_empty() {
                 let (piece, length) = (self.rules.next_piece)(rest);
                 match piece {
-                    Piece::Stray => stats.dropped = add(stats.dropped, 1),
+                    Piece::Stray => counters.dropped = add(counters.dropped, 1),
                     Piece::BrokenStart => {
-                        stats.resyncs = add(stats.resyncs, 1);
-                        stats.dropped = add(stats.dropped, length);
+                        counters.resyncs = add(counters.resyncs, 1);
+                        counters.dropped = add(counters.dropped, length);
                     }
                     Piece::WholeFrame if Frame::parse(&rest[..length]).is_ok() => {
-                        stats.frames = add(stats.frames, 1);
+                        counters.frames = add(counters.frames, 1);
                     }
-                    Piece::WholeFrame => stats.malformed = add(stats.malformed, 1),
+                    Piece::WholeFrame => counters.malformed = add(counters.malformed, 1),
                     Piece::UnfinishedEnd => unfinished = length,
                 }
                 rest = &rest[length..];
             }
         }
-        (stats, unfinished)
+        (counters, unfinished)
     }
 }
 

@@ -1,30 +1,57 @@
 //! Mistakes in handling a parser built by hand: each bound of document 01, point 5, off by one, and the counters.
 
-use ld2410::access::Fields as ParserFields;
+use ld2410::access::{Fields as ParserFields, ORIGINAL_MAX};
 
-use super::Mutant;
+use super::{Mutant, CLOSING};
 use crate::model::streams::{Rules, RULES};
 use crate::oracle::streams::{built_parser, in_range};
 
 pub fn mutants() -> Vec<Mutant> {
     let bound = |(mistake, in_range)| Mutant::rules(13, mistake, Rules { in_range, ..RULES });
     let mut all: Vec<_> = BOUNDS.into_iter().map(bound).collect();
-    all.push(Mutant::rules(
-        13,
-        "a counter wraps",
-        Rules { add: |counter, by| counter.wrapping_add(by as u32), ..RULES },
-    ));
+    let counted = |(mistake, add)| Mutant::rules(13, mistake, Rules { add, ..RULES });
+    all.extend(COUNTED.into_iter().map(counted));
+    all.extend(NARROW.into_iter().map(|(mistake, edit)| Mutant::numbers(13, mistake, edit)));
     all.push(Mutant::argument(13, "a parser out of range loses its counters", |argument| {
         if built_parser(argument).is_some_and(|(parser, _)| !in_range(&parser)) {
-            argument[26..42].fill(0);
+            argument[26..58].fill(0);
         }
     }));
     all.push(Mutant::argument(13, "the buffer of a begun frame is forgotten", |argument| {
-        if argument.len() >= 106 {
-            argument[42..106].fill(0);
+        if argument.len() >= 122 {
+            argument[58..122].fill(0);
         }
     }));
     all
+}
+
+type Add = fn(u64, usize) -> u64;
+
+const COUNTED: [(&str, Add); 5] = [
+    ("a counter wraps at 2 to the 64th", |counter, by| counter.wrapping_add(by as u64)),
+    ("a counter wraps at 2 to the 32nd", |counter, by| (counter as u32).wrapping_add(by as u32).into()),
+    ("a counter stops where the original's does", |counter, by| counter.saturating_add(by as u64).min(ORIGINAL_MAX)),
+    ("a counter stays where the original's stops, and goes on from above it", |counter, by| match counter {
+        ORIGINAL_MAX => counter,
+        _ => counter.saturating_add(by as u64),
+    }),
+    ("a counter stops one below the largest", |counter, by| counter.saturating_add(by as u64).min(u64::MAX - 1)),
+];
+
+type Edit = fn(&[u8], &mut Vec<u64>);
+
+const NARROW: [(&str, Edit); 4] = [
+    ("frames has 32 bits", |_, line| narrow(line, 1)),
+    ("resyncs has 32 bits", |_, line| narrow(line, 2)),
+    ("dropped has 32 bits", |_, line| narrow(line, 3)),
+    ("malformed has 32 bits", |_, line| narrow(line, 4)),
+];
+
+/// Lowers one counter of a closing line.
+fn narrow(line: &mut [u64], counter: usize) {
+    if line.len() == CLOSING {
+        line[counter] = line[counter].min(ORIGINAL_MAX);
+    }
 }
 
 type InRange = fn(&ParserFields) -> bool;

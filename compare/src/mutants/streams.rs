@@ -1,12 +1,9 @@
 //! Mistakes in dividing a stream, and the useless versions of document 01.
 
-use super::{right, Mutant};
+use super::{right, Mutant, CLOSING};
 use crate::model::division::{next_piece, Piece, LIMIT};
 use crate::model::streams::{Rules, RULES};
 use crate::script::{calls, script, Call};
-
-/// Numbers of a closing line; a call's line has more.
-const CLOSING: usize = 6;
 
 pub fn mutants() -> Vec<Mutant> {
     let mut all = Vec::new();

@@ -1,7 +1,7 @@
 //! Ops 10, 11 and 13: scripts of calls on the original's parser, fresh or built by hand.
 
-use ld2410::access::{self, Fields as ParserFields};
-use ld2410::{Parser, Stats};
+use ld2410::access::{self, Counters, Fields as ParserFields};
+use ld2410::Parser;
 
 use super::values::{self, address};
 use crate::case::Fields;
@@ -32,11 +32,11 @@ pub fn built_parser(argument: &[u8]) -> Option<(ParserFields, &[u8])> {
         matched: fields.usize()?,
         len: fields.usize()?,
         pos: fields.usize()?,
-        stats: Stats {
-            frames: fields.u32()?,
-            resyncs: fields.u32()?,
-            dropped: fields.u32()?,
-            malformed: fields.u32()?,
+        counters: Counters {
+            frames: fields.u64()?,
+            resyncs: fields.u64()?,
+            dropped: fields.u64()?,
+            malformed: fields.u64()?,
         },
         buf: fields.array()?,
     };
@@ -70,15 +70,15 @@ fn run(op: u8, parser: &mut Parser, script: &[u8], out: &mut Vec<u8>) {
         values::call(&mut line, taken, delivered.as_ref(), base);
         line.end();
     }
-    closing_line(op, parser.stats(), access::unfinished(parser), out);
+    closing_line(op, Counters::of(parser.stats()), access::unfinished(parser), out);
 }
 
-pub fn closing_line(op: u8, stats: Stats, unfinished: usize, out: &mut Vec<u8>) {
+pub fn closing_line(op: u8, counters: Counters, unfinished: usize, out: &mut Vec<u8>) {
     let mut line = Line::new(out, op);
-    line.number(stats.frames);
-    line.number(stats.resyncs);
-    line.number(stats.dropped);
-    line.number(stats.malformed);
+    line.number(counters.frames);
+    line.number(counters.resyncs);
+    line.number(counters.dropped);
+    line.number(counters.malformed);
     line.count(unfinished);
     line.end();
 }

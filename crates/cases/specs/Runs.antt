@@ -1,9 +1,12 @@
 -- Runs in which something happens, so that no claim about the parser holds of nothing: a report and an acknowledgement
--- are delivered, a malformed frame is not, a reset forgets, and counters stop. Only the reset is a row of the document.
+-- are delivered, a malformed frame is not, a reset forgets, counters pass 32 bits, and stop. Only the reset is a row of
+-- the document.
 --   acknowledged   the published acknowledgement of `EnableConfig`
 --   bReport        what B is read as: "both targets, 120 cm at 60, 150 cm at 45, detection 200 cm"
 --   enabled        what the acknowledgement is read as, its payload at byte 4 of the buffer
---   full           a parser whose four counters are at their max
+--   largest        "the largest 64-bit value", as the document's number and not by the definitions' name
+--   counting n     a parser whose four counters hold n
+--   each, eachDone calls in which every kind of piece that counts ends, and what they do
 --   runs           the rows
 use mathlib.Core.List.{List, [], _∷_, _++_}
 use mathlib.Core.Bool.{true, false}
@@ -50,12 +53,22 @@ enabled = record {
   ack = record { word = 0x00FF; ok = true; status = 0; payload = record { start = 4; len = 4 } };
 }
 
-abbrev pub full : Parser
-full = record {
+abbrev pub largest : ℕ
+largest = 18446744073709551615
+
+abbrev pub counting : ℕ → Parser
+counting n = record {
   buf = replicate 64 0;
   scan = hunting;
-  stats = record { frames = 4294967295; resyncs = 4294967295; dropped = 4294967295; malformed = 4294967295 };
+  stats = record { frames = n; resyncs = n; dropped = n; malformed = n };
 }
+
+abbrev each : List Call
+each = feed 0x00 ∷ slice (0xF4 ∷ 0x00 ∷ []) ∷ slice b ∷ slice bare ∷ []
+
+abbrev eachDone : List (Did Answer)
+eachDone = fed 0x00 nothing ∷ sliced (0xF4 ∷ 0x00 ∷ []) 2 nothing ∷ sliced b 23 (bReport, [])
+    ∷ sliced bare 12 nothing ∷ []
 
 abbrev row : Parser → List Call → List (Did Answer) → Numbers → Run
 row p cs ds n = record { start = p; calls = cs; history = ds; numbers = n }
@@ -73,8 +86,8 @@ runs =
     -- "F4 F3, then reset: all counters 0"
     ∷ row fresh (feed 0xF4 ∷ feed 0xF3 ∷ reset ∷ [])
     (fed 0xF4 nothing ∷ fed 0xF3 nothing ∷ cleared ∷ []) (numbers 0 0 0 0 0)
-    -- a stray byte after a full counter, and every other kind of piece that counts
-    ∷ row full (feed 0x00 ∷ slice (0xF4 ∷ 0x00 ∷ []) ∷ slice b ∷ slice bare ∷ [])
-    (fed 0x00 nothing ∷ sliced (0xF4 ∷ 0x00 ∷ []) 2 nothing ∷ sliced b 23 (bReport, []) ∷ sliced bare 12 nothing ∷ [])
-    (numbers 4294967295 4294967295 4294967295 4294967295 0)
+    -- a stray byte, a broken start and the stray byte that broke it, a frame that decodes and one that does not: each
+    -- counter goes on from 2 to the 32nd, and stays where it is full
+    ∷ row (counting 4294967296) each eachDone (numbers 4294967297 4294967297 4294967299 4294967297 0)
+    ∷ row (counting largest) each eachDone (numbers largest largest largest largest 0)
     ∷ []

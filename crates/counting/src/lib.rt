@@ -89,10 +89,10 @@ pub fn read_all(fd: i32) -> Parser
 
 // The numbers of a line, in its order.
 pub struct Counts {
-    pub frames: u32,
-    pub resyncs: u32,
-    pub dropped: u32,
-    pub malformed: u32,
+    pub frames: u64,
+    pub resyncs: u64,
+    pub dropped: u64,
+    pub malformed: u64,
     pub unfinished: usize,
 }
 
@@ -123,10 +123,10 @@ pub fn print_counts(fd: i32, parser: Parser) -> Counts
 }
 
 fn print_line(fd: i32, counts: Counts) {
-    print_number(fd, counts.frames as u64, b" ");
-    print_number(fd, counts.resyncs as u64, b" ");
-    print_number(fd, counts.dropped as u64, b" ");
-    print_number(fd, counts.malformed as u64, b" ");
+    print_number(fd, counts.frames, b" ");
+    print_number(fd, counts.resyncs, b" ");
+    print_number(fd, counts.dropped, b" ");
+    print_number(fd, counts.malformed, b" ");
     print_number(fd, counts.unfinished as u64, b"\n");
 }
 

@@ -35,10 +35,16 @@ pub fn u32_at(argument: &[u8], at: usize) -> u32 {
     }
 }
 
+pub fn u64_at(argument: &[u8], at: usize) -> u64
+    requires inside { ⌜ at < 70000 ⌝ }
+{
+    u32_at(argument, at) as u64 + 4_294_967_296 * (u32_at(argument, at + 4) as u64)
+}
+
 pub fn usize_at(argument: &[u8], at: usize) -> usize
     requires inside { ⌜ at < 70000 ⌝ }
 {
-    u32_at(argument, at) as usize + 4_294_967_296 * (u32_at(argument, at + 4) as usize)
+    u64_at(argument, at) as usize
 }
 
 // The bytes from a place on; none where the argument is not as long.

@@ -1,7 +1,7 @@
 // The parser that a script begins with: a new one, in op 13 one built from its fields.
 use crate::argument::rest;
 use crate::argument::u8_at;
-use crate::argument::u32_at;
+use crate::argument::u64_at;
 use crate::argument::usize_at;
 use ld2410::Kind;
 use ld2410::MAX_FRAME;
@@ -12,7 +12,7 @@ use ld2410::Stats;
 use wire::copy_prefix;
 
 // Where a parser's buffer begins in an argument of op 13.
-const BUFFER_AT: usize = 42;
+const BUFFER_AT: usize = 58;
 
 // Where the script begins there.
 const SCRIPT_AT: usize = BUFFER_AT + MAX_FRAME;
@@ -79,9 +79,9 @@ fn kind(number: u8) -> Kind {
 // The counters in an argument of op 13.
 fn stats(argument: &[u8]) -> Stats {
     Stats {
-        frames: u32_at(argument, 26),
-        resyncs: u32_at(argument, 30),
-        dropped: u32_at(argument, 34),
-        malformed: u32_at(argument, 38),
+        frames: u64_at(argument, 26),
+        resyncs: u64_at(argument, 34),
+        dropped: u64_at(argument, 42),
+        malformed: u64_at(argument, 50),
     }
 }

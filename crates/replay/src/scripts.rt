@@ -117,10 +117,10 @@ fn closing(out: &mut Text, taken: usize, op: u8, parser: Parser) -> usize {
 fn counters(parser: Parser) -> Row {
     let stats = parser.stats();
     [
-        stats.frames as u64,
-        stats.resyncs as u64,
-        stats.dropped as u64,
-        stats.malformed as u64,
+        stats.frames,
+        stats.resyncs,
+        stats.dropped,
+        stats.malformed,
         parser.unfinished() as u64,
         0,
         0,

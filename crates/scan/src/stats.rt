@@ -2,16 +2,16 @@
 use crate::Scan;
 use wire::Kind;
 
-// Parser counters. Each stops at its largest number.
+// Parser counters. Each stops at the largest number of 64 bits.
 pub struct Stats {
     // Complete, decoded frames delivered.
-    pub frames: u32,
+    pub frames: u64,
     // Times a frame in progress was given up and the search for a header began anew.
-    pub resyncs: u32,
+    pub resyncs: u64,
     // Bytes discarded: those between frames, and those of frames that were given up.
-    pub dropped: u32,
+    pub dropped: u64,
     // Whole frames whose data do not decode.
-    pub malformed: u32,
+    pub malformed: u64,
 }
 
 // Whether a byte ended a frame: its family and the length of its data, which stand at the front of the buffer.

@@ -1,10 +1,11 @@
--- The parser's counters: "`bump` saturates".
---   counterMax   where a counter stops
+-- The parser's counters: "`bump` saturates"; document 02, item 1: "Make all four counters 64 bits wide; they stop at
+-- the largest 64-bit value."
+--   counterMax   that value, where a counter stops
 --   bumped c n   the counter c after n more
 use Prim.Native.Nat.{ℕ, _+_, min}
 
 abbrev pub counterMax : ℕ
-counterMax = 4294967295
+counterMax = 18446744073709551615
 
 unfoldable pub bumped : ℕ → ℕ → ℕ
 bumped c n = min (c + n) counterMax

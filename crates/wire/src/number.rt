@@ -6,8 +6,8 @@ ghost use Prim.Native.Nat.{min};
 ghost use Rattle.wire.specs.Number.{byteAt, le16At, le32At};
 ghost use Rattle.wire.specs.Counter.{bumped};
 
-// Where a counter stops.
-const COUNTER_MAX: u32 = 4_294_967_295;
+// Where a counter stops: the largest number of 64 bits.
+const COUNTER_MAX: u64 = 18_446_744_073_709_551_615;
 
 // A number read from the wire, if its bytes are all there.
 pub enum MaybeU8 {
@@ -63,12 +63,12 @@ pub fn le32(bytes: &[u8], at: usize) -> MaybeU32
 }
 
 // The counter after `by` more, which stops at `COUNTER_MAX`.
-pub fn bump(counter: u32, by: usize) -> u32
+pub fn bump(counter: u64, by: usize) -> u64
     ensures counted { λ r. ⌜ r ≡ bumped counter by ⌝ }
 {
     let room = COUNTER_MAX - counter;
-    if by <= room as usize {
-        counter + by as u32
+    if by as u64 <= room {
+        counter + by as u64
     } else {
         COUNTER_MAX
     }
