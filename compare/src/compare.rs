@@ -1,69 +1,82 @@
-//! Runs the generated cases through our program in batches, and compares its answers line by line with the expected.
+//! Runs the generated cases through our programs in batches, and compares their answers line by line with the expected.
 
 mod batch;
 mod ends;
 mod tally;
 
 use std::io;
+use std::path::Path;
 
 use crate::generate;
 use crate::intended;
 use crate::options::Options;
+use crate::programs::{Program, PROGRAMS};
 use batch::Batch;
 use tally::Tally;
 
 /// Bytes of cases that go through one run of our program.
 const BATCH_BYTES: usize = 4 << 20;
 
-/// Compares every op; true where nothing differs but what is intended.
+/// Compares every op with the program that has it; true where nothing differs but what is intended.
 pub fn run(options: &Options) -> io::Result<bool> {
-    if !options.ours.is_file() {
-        let message = format!(
-            "our program is missing: no file {} (rt check replay builds it; --ours PROGRAM names another)",
-            options.ours.display()
-        );
-        return Err(io::Error::other(message));
+    let asked: Vec<_> = PROGRAMS.iter().zip(&options.paths).filter(|(program, _)| asked(program, options)).collect();
+    for (program, path) in &asked {
+        present(program, path)?;
     }
-    let scale = options.scale.unwrap_or(1);
-    let mut intended = vec![0; intended::TABLE.len()];
-    let mut tallies = vec![ends::compare(&options.ours)?];
-    for &op in &options.ops {
-        let mut tally = Tally::new(op);
-        compare_op(options, scale, &mut tally)?;
-        for (sum, count) in intended.iter_mut().zip(&tally.intended) {
-            *sum += count;
+    let mut tallies = Vec::new();
+    for (program, path) in asked {
+        tallies.push(ends::compare(program, path)?);
+        for &op in options.ops.iter().filter(|op| program.ops.contains(op)) {
+            tallies.push(compare_op(op, path, options)?);
         }
-        tallies.push(tally);
     }
     for tally in &tallies {
         println!("{}", tally.summary());
     }
-    print_intended(&intended);
+    print_intended(&tallies);
     Ok(tallies.iter().all(Tally::clean))
 }
 
-fn compare_op(options: &Options, scale: u64, tally: &mut Tally) -> io::Result<()> {
-    let mut batch = Batch::new(tally.op);
+/// Whether an op of a program is to be compared.
+fn asked(program: &Program, options: &Options) -> bool {
+    program.ops.iter().any(|op| options.ops.contains(op))
+}
+
+fn present(program: &Program, path: &Path) -> io::Result<()> {
+    if path.is_file() {
+        return Ok(());
+    }
+    let Program { name, option, .. } = program;
+    let place = path.display();
+    let message =
+        format!("our program is missing: no file {place} (rt check {name} builds it; {option} PROGRAM names another)");
+    Err(io::Error::other(message))
+}
+
+fn compare_op(op: u8, program: &Path, options: &Options) -> io::Result<Tally> {
+    let mut tally = Tally::new(op);
+    let mut batch = Batch::new(op);
     let mut outcome = Ok(());
-    generate::cases(tally.op, options.seed, scale, &mut |argument| {
+    generate::cases(op, options.seed, options.scale.unwrap_or(1), &mut |argument| {
         if outcome.is_ok() {
-            batch.add(argument, tally);
+            batch.add(argument, &mut tally);
             if batch.bytes() >= BATCH_BYTES {
-                outcome = batch.run(&options.ours, tally);
+                outcome = batch.run(program, &mut tally);
             }
         }
     });
     outcome?;
-    batch.run(&options.ours, tally)?;
+    batch.run(program, &mut tally)?;
     tally.end_progress();
-    Ok(())
+    Ok(tally)
 }
 
-fn print_intended(counts: &[u64]) {
+fn print_intended(tallies: &[Tally]) {
     if intended::TABLE.is_empty() {
         println!("intended differences: none");
     }
-    for (entry, count) in intended::TABLE.iter().zip(counts) {
+    for (place, entry) in intended::TABLE.iter().enumerate() {
+        let count: u64 = tallies.iter().map(|tally| tally.intended[place]).sum();
         println!("intended difference, op {}: {count} lines: {}", entry.op, entry.reason);
     }
 }

@@ -4,6 +4,7 @@
 use ld2410::access::ORIGINAL_MAX;
 
 use crate::case::{self, Case, Next};
+use crate::line;
 use crate::model::streams::{self, RULES};
 use crate::oracle;
 
@@ -44,13 +45,17 @@ pub fn beside_original(answer: &[u8]) -> Vec<u8> {
     [calls.concat(), lowered(closing)].concat()
 }
 
-/// The answers to a whole input, as the program `replay` prints them.
-pub fn answers(mut input: &[u8]) -> Vec<u8> {
+/// The answers to a whole input, as a program with these ops prints them.
+pub fn answers(mut input: &[u8], ops: &[u8]) -> Vec<u8> {
     let mut out = Vec::new();
     loop {
         match case::next(input) {
             Next::Case(case, rest) => {
-                answer(case, &mut out);
+                if ops.contains(&case.op) {
+                    answer(case, &mut out);
+                } else {
+                    line::none(&mut out, case.op);
+                }
                 input = rest;
             }
             Next::End => return out,

@@ -8,16 +8,16 @@ pub mod frames;
 pub mod parsers;
 pub mod random;
 pub mod reports;
+pub mod sessions;
+pub mod stations;
 pub mod streams;
 pub mod values;
+pub mod walks;
 
 use random::Random;
 
 /// Random cases of an op at scale 1.
 const MILLION: u64 = 1_000_000;
-
-/// Every op that has an answer.
-pub const OPS: [u8; 14] = [1, 2, 3, 4, 5, 6, 7, 8, 9, 10, 11, 12, 13, 14];
 
 /// Where the cases of one op go, and what they are drawn from.
 pub struct Cases<'a> {
@@ -73,6 +73,7 @@ pub fn cases(op: u8, seed: u64, scale: u64, emit: &mut dyn FnMut(&[u8])) {
         12 => commands::baud_cases(&mut cases),
         13 => parsers::built_parser_cases(&mut cases),
         14 => built_acks::built_ack_cases(&mut cases),
+        20 => stations::station_cases(&mut cases),
         _ => {}
     }
 }

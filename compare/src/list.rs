@@ -1,9 +1,11 @@
-//! The fixed list: a few thousand cases that reach every check from both sides, for the gate to replay.
+//! The fixed list of each program: cases that reach every check from both sides, for the gate to replay.
 
 mod readers;
+mod sessions;
 mod streams;
 mod writers;
 
+use std::ffi::OsStr;
 use std::fs;
 use std::io;
 use std::path::Path;
@@ -12,6 +14,7 @@ use crate::case::Case;
 use crate::expected::{self, beside_original, is_script};
 use crate::generate::random::Random;
 use crate::oracle;
+use crate::programs::{Program, PROGRAMS};
 
 /// The listed arguments of an op, the same at every call.
 pub fn arguments(op: u8) -> Vec<Vec<u8>> {
@@ -31,15 +34,18 @@ pub fn arguments(op: u8) -> Vec<Vec<u8>> {
         12 => writers::rates(),
         13 => streams::built_parsers(random),
         14 => readers::built_acks(random),
+        20 => sessions::scripts(),
         _ => Vec::new(),
     }
 }
 
-/// Writes the list of these ops to `stdin` and its answers to `stdout` in a directory. Its last case is cut short. Nothing
-/// is written where a script's answer, its counters lowered, is not the original's.
+/// Writes the list of these ops to `stdin` and its answers to `stdout` in the directory of the program that has them.
+/// The last case is cut short, and that before it has an op that the program has not. Nothing is written where a
+/// script's answer, its counters lowered, is not the original's.
 pub fn write(directory: &Path, ops: &[u8]) -> io::Result<bool> {
+    let program = program_of(directory)?;
     let mut input = Vec::new();
-    for &op in ops {
+    for &op in ops.iter().filter(|op| program.ops.contains(op)) {
         for argument in arguments(op) {
             let case = Case { op, argument: &argument };
             if !agreed(case) {
@@ -48,15 +54,22 @@ pub fn write(directory: &Path, ops: &[u8]) -> io::Result<bool> {
             case.write(&mut input);
         }
     }
-    Case { op: 0, argument: &[] }.write(&mut input);
-    input.extend([1, 2, 0, 0, 0, 3]);
-    let answers = expected::answers(&input);
+    Case { op: program.no_ops[0], argument: &[] }.write(&mut input);
+    input.extend(program.cut);
+    let answers = expected::answers(&input, program.ops);
     fs::create_dir_all(directory)?;
     fs::write(directory.join("stdin"), &input)?;
     fs::write(directory.join("stdout"), &answers)?;
     let lines = answers.iter().filter(|&&byte| byte == b'\n').count();
     println!("{} bytes of cases, {lines} lines of answers", input.len());
     Ok(true)
+}
+
+/// The program that a directory has its name from.
+fn program_of(directory: &Path) -> io::Result<&'static Program> {
+    let named = |program: &&Program| directory.file_name() == Some(OsStr::new(program.name));
+    let message = || format!("no program has the name of the directory {}", directory.display());
+    PROGRAMS.iter().find(named).ok_or_else(|| io::Error::other(message()))
 }
 
 /// Whether the expected answer is the original's, once its counters are lowered.

@@ -11,9 +11,11 @@ mod model;
 mod mutants;
 mod options;
 mod oracle;
+mod programs;
 mod published;
 mod script;
 mod self_check;
+mod station;
 
 use std::io::{self, Read, Write};
 use std::process::ExitCode;
@@ -60,6 +62,6 @@ fn run(options: &Options) -> io::Result<bool> {
 fn answer_standard_input() -> io::Result<bool> {
     let mut input = Vec::new();
     io::stdin().read_to_end(&mut input)?;
-    io::stdout().write_all(&expected::answers(&input))?;
+    io::stdout().write_all(&expected::answers(&input, &programs::ops()))?;
     Ok(true)
 }

@@ -1,7 +1,9 @@
-//! Naive models, written from document 01 alone: the frame writers, the command reader, the division of a stream.
+//! Naive models: the frame writers, the command reader and the division of a stream, written from document 01 alone,
+//! and the session, from document 02, item 2.
 
 pub mod commands;
 pub mod division;
 pub mod families;
+pub mod session;
 pub mod streams;
 pub mod writers;

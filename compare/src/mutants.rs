@@ -3,12 +3,14 @@
 
 mod parsers;
 mod readers;
+mod sessions;
 mod streams;
 mod writers;
 
 use crate::case::Case;
 use crate::expected;
 use crate::model::streams::{self as streams_model, Rules};
+use sessions::{edit_events, Seen};
 
 /// Numbers of a closing line; a call's line has more.
 const CLOSING: usize = 6;
@@ -28,6 +30,8 @@ enum Wrong {
     Argument(fn(&mut Vec<u8>)),
     /// A script's answer by other rules of the stream.
     Rules(Rules),
+    /// The right answer to a station script with the numbers of an event's line changed, seen beside the event.
+    Events(fn(&Seen<'_>, &mut Vec<u64>)),
 }
 
 impl Mutant {
@@ -51,6 +55,11 @@ impl Mutant {
         Self { op, mistake, wrong }
     }
 
+    const fn events(op: u8, mistake: &'static str, edit: fn(&Seen<'_>, &mut Vec<u64>)) -> Self {
+        let wrong = Wrong::Events(edit);
+        Self { op, mistake, wrong }
+    }
+
     /// Whether this variant answers a case otherwise than expected.
     pub fn differs(&self, case: Case<'_>, expected: &[u8]) -> bool {
         match &self.wrong {
@@ -69,6 +78,7 @@ impl Mutant {
                 let mut answer = Vec::new();
                 streams_model::answer(case, rules, &mut answer).is_some() && answer != expected
             }
+            Wrong::Events(edit) => changed_by(expected, |lines| edit_events(case.argument, lines, *edit)),
         }
     }
 }
@@ -87,6 +97,7 @@ pub fn of(op: u8) -> Vec<Mutant> {
     all.extend(writers::mutants());
     all.extend(streams::mutants());
     all.extend(parsers::mutants());
+    all.extend(sessions::mutants());
     all.retain(|mutant| mutant.op == op);
     all
 }

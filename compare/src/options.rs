@@ -1,18 +1,20 @@
 //! The command line.
 
-use std::path::PathBuf;
+use std::path::{Path, PathBuf};
 
-use crate::generate::OPS;
+use crate::programs::{self, PROGRAMS};
 
 pub const USAGE: &str = "\
 usage: compare/run [--original FILE] [options]
-  without a mode          run the generated cases through our program and hold its answers against the original's
+  without a mode          run the generated cases through our programs and hold their answers against the original's
   --self-check            hold wrong variants against the right answers: each must be noticed
-  --write-list DIR        write the fixed list of cases and answers to DIR/stdin and DIR/stdout
-  --answer                answer the cases on standard input, as our program does
+  --write-list DIR        write the fixed list of cases and answers to DIR/stdin and DIR/stdout; DIR is named as the
+                          program whose list it is, as in crates/replay
+  --answer                answer the cases on standard input, as our programs do
 options
   --original FILE         the original Rust file
   --ours PROGRAM          our program (default target/bin/replay)
+  --station PROGRAM       our program of op 20 (default target/bin/replay_station)
   --ops 1,2,3             these ops alone (default: all)
   --seed N                seed of the random cases (default 1)
   --scale N               one random case for N at full scale (default 1, the self-check's 100)";
@@ -27,7 +29,8 @@ pub enum Mode {
 
 pub struct Options {
     pub mode: Mode,
-    pub ours: PathBuf,
+    /// Where each of PROGRAMS is.
+    pub paths: [PathBuf; PROGRAMS.len()],
     pub ops: Vec<u8>,
     pub seed: u64,
     pub scale: Option<u64>,
@@ -37,15 +40,14 @@ pub struct Options {
 pub fn parse(mut arguments: impl Iterator<Item = String>) -> Result<Options, String> {
     let mut options = Options {
         mode: Mode::Compare,
-        ours: PathBuf::from("target/bin/replay"),
-        ops: OPS.to_vec(),
+        paths: PROGRAMS.map(|program| Path::new("target/bin").join(program.name)),
+        ops: programs::ops(),
         seed: 1,
         scale: None,
     };
     while let Some(name) = arguments.next() {
         let mut value = || arguments.next().ok_or(format!("{name} needs a value"));
         match name.as_str() {
-            "--ours" => options.ours = value()?.into(),
             "--ops" => options.ops = ops(&value()?)?,
             "--seed" => options.seed = number(&value()?)?,
             "--scale" => options.scale = Some(number(&value()?)?.max(1)),
@@ -53,7 +55,11 @@ pub fn parse(mut arguments: impl Iterator<Item = String>) -> Result<Options, Str
             "--write-list" => options.mode = Mode::WriteList(value()?.into()),
             "--answer" => options.mode = Mode::Answer,
             "--help" => options.mode = Mode::Help,
-            _ => return Err(format!("no option {name}; --help lists them")),
+            _ => {
+                let place = PROGRAMS.iter().position(|program| program.option == name);
+                let place = place.ok_or(format!("no option {name}; --help lists them"))?;
+                options.paths[place] = value()?.into();
+            }
         }
     }
     Ok(options)
@@ -65,7 +71,7 @@ fn number(text: &str) -> Result<u64, String> {
 
 fn ops(text: &str) -> Result<Vec<u8>, String> {
     let op = |text: &str| {
-        let op = text.parse().ok().filter(|op| OPS.contains(op));
+        let op = text.parse().ok().filter(|op| programs::ops().contains(op));
         op.ok_or(format!("not an op: {text}"))
     };
     text.split(',').map(op).collect()

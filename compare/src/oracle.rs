@@ -1,8 +1,9 @@
-//! The original Rust's answer of every op, its counters as it has them, and for the three added calls (7, 8, 9) the answer
-//! of the model of document 01.
+//! The original Rust's answer of every op, its counters as it has them; for the three added calls (7, 8, 9) the answer
+//! of the model of document 01, and for a station script (20) that of the session of document 02, item 2.
 
 pub mod commands;
 mod readers;
+pub mod sessions;
 pub mod streams;
 pub mod values;
 mod writers;
@@ -28,6 +29,7 @@ pub fn answer(case: Case<'_>, out: &mut Vec<u8>) {
         12 => commands::baud(argument, out),
         13 => streams::built(argument, out),
         14 => readers::replies_of_built(argument, out),
+        20 => sessions::station(argument, out),
         _ => None,
     };
     if answered.is_none() {

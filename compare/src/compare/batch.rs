@@ -9,6 +9,7 @@ use super::tally::Tally;
 use crate::case::Case;
 use crate::expected::{self, beside_original, is_script, lowered};
 use crate::oracle;
+use crate::station::{events, STATION};
 
 /// Where a case's argument starts in a batch's input, and where it, its answers and the original's answers end.
 struct Ends {
@@ -47,6 +48,9 @@ impl Batch {
         let modelled = expected::answer(case, &mut self.expected);
         if is_script(self.op) {
             oracle::answer(case, &mut self.original);
+        }
+        if self.op == STATION {
+            tally.events += events(argument).count() as u64;
         }
         if modelled {
             self.hold_model(case, before, original_before, tally);

@@ -1,4 +1,4 @@
-//! Inputs that end inside a case, a case that is too long, and ops that the table does not have.
+//! Inputs that end inside a case, a case that is too long, and ops that a program's table does not have.
 
 use std::io;
 use std::path::Path;
@@ -7,16 +7,14 @@ use super::batch::answers_of;
 use super::tally::Tally;
 use crate::case::{Case, LONGEST};
 use crate::expected;
-
-/// Ops outside the table; from 20 on they belong to later requests.
-const NO_OPS: [u8; 7] = [0, 15, 16, 17, 18, 19, 255];
+use crate::programs::Program;
 
 /// Each input is a run of our program of its own.
-pub fn compare(program: &Path) -> io::Result<Tally> {
-    let mut tally = Tally::new(0);
-    for input in inputs() {
-        let expected = expected::answers(&input);
-        let got = answers_of(program, &input)?;
+pub fn compare(program: &Program, path: &Path) -> io::Result<Tally> {
+    let mut tally = Tally::of_ends(program.name);
+    for input in inputs(program) {
+        let expected = expected::answers(&input, program.ops);
+        let got = answers_of(path, &input)?;
         tally.cases += 1;
         tally.lines += expected.iter().filter(|&&byte| byte == b'\n').count() as u64;
         if got != expected {
@@ -27,16 +25,17 @@ pub fn compare(program: &Path) -> io::Result<Tally> {
     Ok(tally)
 }
 
-fn inputs() -> Vec<Vec<u8>> {
+fn inputs(program: &Program) -> Vec<Vec<u8>> {
     let mut good = Vec::new();
-    Case { op: 3, argument: &[0xFF, 0x01, 0x00, 0x00] }.write(&mut good);
+    program.sample.write(&mut good);
+    let op = program.sample.op;
     let mut inputs: Vec<_> = (0..=good.len()).map(|length| [&good, &good[..length]].concat()).collect();
-    let told = |n: u32, given: usize| [&good[..], &[3], &n.to_le_bytes(), &vec![0; given], &good].concat();
+    let told = |n: u32, given: usize| [&good[..], &[op], &n.to_le_bytes(), &vec![0; given], &good].concat();
     let most = LONGEST as u32;
     inputs.extend([told(most, LONGEST), told(most, 10), told(most + 1, 10), told(most + 1, LONGEST + 1)]);
     inputs.extend([told(u32::MAX, 0), told(1 << 24, 100)]);
     inputs.push(Vec::new());
-    for op in NO_OPS {
+    for &op in program.no_ops {
         let mut input = Vec::new();
         Case { op, argument: &[] }.write(&mut input);
         Case { op, argument: &[1, 2, 3] }.write(&mut input);

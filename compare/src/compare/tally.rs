@@ -10,9 +10,12 @@ use crate::intended;
 const SHOWN_BYTES: usize = 400;
 
 pub struct Tally {
-    pub op: u8,
+    /// What is compared: an op, or the ends of a program's input.
+    what: String,
     pub cases: u64,
     pub lines: u64,
+    /// Events of station scripts.
+    pub events: u64,
     /// Lines of ours that are not the expected ones, and those of scripts that, lowered, are not the original's: one line
     /// may count for both.
     pub differences: u64,
@@ -25,10 +28,19 @@ pub struct Tally {
 
 impl Tally {
     pub fn new(op: u8) -> Self {
+        Self::named(format!("op {op}"))
+    }
+
+    pub fn of_ends(program: &str) -> Self {
+        Self::named(format!("ends of input of {program}"))
+    }
+
+    fn named(what: String) -> Self {
         Self {
-            op,
+            what,
             cases: 0,
             lines: 0,
+            events: 0,
             differences: 0,
             modelled: 0,
             model_differences: 0,
@@ -48,7 +60,7 @@ impl Tally {
         }
         if self.differences == 0 {
             self.end_progress();
-            println!("first difference of op {}", self.op);
+            println!("first difference of {}", self.what);
             name(case, expected, got);
         }
         self.differences += 1;
@@ -58,15 +70,15 @@ impl Tally {
     pub fn model_difference(&mut self, case: Case<'_>, original: &str, model: &str) {
         if self.model_differences == 0 {
             self.end_progress();
-            println!("the model of the division differs from the original, op {}", self.op);
+            println!("the model of the division differs from the original, {}", self.what);
             name(Some(case), original, model);
         }
         self.model_differences += 1;
     }
 
     pub fn summary(&self) -> String {
-        let what = if self.op == 0 { "ends of input".to_owned() } else { format!("op {}", self.op) };
-        let mut text = format!("{what}: {} cases, {} lines, {} differences", self.cases, self.lines, self.differences);
+        let Self { what, cases, lines, differences, .. } = self;
+        let mut text = format!("{what}: {cases} cases, {lines} lines, {differences} differences");
         if self.modelled > 0 {
             let _ = write!(
                 text,
@@ -74,13 +86,16 @@ impl Tally {
                 self.modelled, self.model_differences
             );
         }
+        if self.events > 0 {
+            let _ = write!(text, "; {} events", self.events);
+        }
         text
     }
 
     /// A line that is written over, on a terminal alone.
     pub fn progress(&self) {
         if io::stderr().is_terminal() {
-            eprint!("\rop {}: {} cases ", self.op, self.cases);
+            eprint!("\r{}: {} cases ", self.what, self.cases);
             let _ = io::stderr().flush();
         }
     }

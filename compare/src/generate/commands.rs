@@ -105,7 +105,7 @@ fn add_each<const N: usize>(cases: &mut Cases<'_>, commands: [[u8; 6]; N]) {
     }
 }
 
-fn any_command(random: &mut Random) -> [u8; 6] {
+pub fn any_command(random: &mut Random) -> [u8; 6] {
     let number = random.pick(&[0, 1, 2, 2, 2, 3, 4, 5, 5, 5, 6, 7, 8, 9, 10, 11, 12]);
     let mut command = [number, 0, 0, 0, 0, 0];
     for slot in &mut command[1..] {

@@ -60,6 +60,15 @@ pub use command::MaybeBaud;
 pub use command_reader::CommandResult;
 pub use command_reader::read_command;
 
+// The conversation.
+pub use session::ReceiveResult;
+pub use session::Received;
+pub use session::SendResult;
+pub use session::Sent;
+pub use session::Session;
+pub use session::SessionError;
+pub use wire::MaybeU16;
+
 // The added writers.
 pub use ack_writer::write_ack;
 pub use report_writer::write_report;

@@ -1,13 +1,5 @@
 // Ops 6, 9 and 12: the encoder of commands, the reader of command frames, and the rates. Each puts the numbers that
 // stand after its op.
-use crate::argument::flag_at;
-use crate::argument::u8_at;
-use crate::argument::u16_at;
-use crate::line::Row;
-use crate::line::Text;
-use crate::line::bytes;
-use crate::line::number;
-use crate::line::row;
 use crate::writers;
 use ld2410::Baud;
 use ld2410::Command;
@@ -15,59 +7,26 @@ use ld2410::CommandResult;
 use ld2410::Gate;
 use ld2410::MaybeBaud;
 use ld2410::read_command;
+use replay_io::argument::u16_at;
+use replay_io::commands::MaybeCommand;
+use replay_io::commands::command_in;
+use replay_io::line::Row;
+use replay_io::line::Text;
+use replay_io::line::bytes;
+use replay_io::line::none;
+use replay_io::line::number;
+use replay_io::line::row;
 use writer::u16_bytes;
 
 // Op 6, on a buffer and a command: what its writer puts, then what the command says of itself.
 pub fn encode(out: &mut Text, taken: usize, argument: &[u8]) -> usize {
-    let n = writers::write(out, taken, 6, argument);
-    let command = command_in(writers::value_in(argument));
-    let n = number(out, n, command.word() as u64);
-    number(out, n, command.encoded_len() as u64)
-}
-
-// Whether six bytes are a command.
-pub fn is_command(six: &[u8]) -> bool {
-    match u8_at(six, 0) {
-        7 => rate(u8_at(six, 1) as u16)[0] == 1,
-        number => number <= 11,
-    }
-}
-
-// The command that six bytes are.
-pub fn command_in(six: &[u8]) -> Command {
-    match u8_at(six, 0) {
-        0 => Command::EnableConfig,
-        1 => Command::EndConfig,
-        2 => Command::SetMaxGates {
-            moving: u8_at(six, 1),
-            stationary: u8_at(six, 2),
-            no_one_secs: u16_at(six, 3),
-        },
-        3 => Command::ReadParameters,
-        4 => Command::EngineeringMode(flag_at(six, 1)),
-        5 => Command::SetSensitivity {
-            gate: gate(flag_at(six, 1), u8_at(six, 2)),
-            moving: u8_at(six, 3),
-            stationary: u8_at(six, 4),
-        },
-        6 => Command::ReadFirmware,
-        7 => Command::SetBaud(baud_in(u8_at(six, 1))),
-        8 => Command::FactoryReset,
-        9 => Command::Restart,
-        10 => Command::Bluetooth(flag_at(six, 1)),
-        _ => Command::ReadMac,
-    }
-}
-
-fn gate(all: bool, index: u8) -> Gate {
-    if all { Gate::All } else { Gate::Index(index) }
-}
-
-// The rate of an index that has one.
-fn baud_in(index: u8) -> Baud {
-    match Baud::from_index(index as u16) {
-        MaybeBaud::Some(baud) => baud,
-        MaybeBaud::None => Baud::B9600,
+    match command_in(writers::value_in(argument)) {
+        MaybeCommand::Some(command) => {
+            let n = writers::write(out, taken, 6, argument);
+            let n = number(out, n, command.word() as u64);
+            number(out, n, command.encoded_len() as u64)
+        }
+        MaybeCommand::None => none(out, taken),
     }
 }
 

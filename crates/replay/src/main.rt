@@ -1,11 +1,8 @@
 // Answers cases from standard input: each calls a function of the link on the bytes that it brings, and its answer is a
 // line of numbers. docs/REPLAY.md has the form of both.
-mod argument;
-mod cases;
 mod commands;
 mod fields;
-mod input;
-mod line;
+mod numbers;
 mod ops;
 mod readers;
 mod replies;
@@ -13,35 +10,27 @@ mod scripts;
 mod values;
 mod writers;
 
-use cases::Answered;
-use line::Text;
-
-// Says why the answers end before the input does, if they do: the next case is too long, or only a part of it is there.
-// Then writes what is left of them.
-fn finish(out: &mut Text, answered: Answered, end: usize) {
-    let n = if answered.long {
-        line::word(out, answered.taken, b"long\n")
-    } else if end > answered.used {
-        line::word(out, answered.taken, b"short\n")
-    } else {
-        answered.taken
-    };
-    line::flush(out, n);
-}
+use replay_io::input;
+use replay_io::input::next_case;
+use replay_io::input::nothing_read;
+use replay_io::line;
+use replay_io::line::Text;
 
 // Answers every case. The turns are counted down, from a number that no run uses up, so that the loop ends.
 fn run(input: &mut [u8], out: &mut Text) {
-    let mut kept = 0;
+    let mut case = nothing_read();
     let mut taken = 0;
     let mut turns = u64::MAX;
     while turns > 0 {
-        let end = input::more(input, kept);
-        let answered = cases::all(out, taken, &input[0..end]);
-        if answered.long || end == kept {
-            return finish(out, answered, end);
+        case = next_case(input, case);
+        let start = case.start;
+        let end = case.end;
+        let found = case.found;
+        if !case.is_case() {
+            line::finish(out, taken, found);
+            return;
         }
-        taken = answered.taken;
-        kept = input::keep(input, answered.used, end);
+        taken = ops::answer(out, taken, &input[start..end]);
         turns -= 1;
     }
 }

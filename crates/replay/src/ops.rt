@@ -1,16 +1,14 @@
 // The table of the ops.
-use crate::argument::rest;
-use crate::argument::u8_at;
 use crate::commands;
 use crate::fields;
-use crate::line;
-use crate::line::Text;
 use crate::readers;
 use crate::scripts;
 use crate::writers;
-
-// Bytes of a case before its argument: the op and the argument's length.
-pub const HEAD: usize = 5;
+use replay_io::argument::rest;
+use replay_io::argument::u8_at;
+use replay_io::input::HEAD;
+use replay_io::line;
+use replay_io::line::Text;
 
 // Puts the answer to a case: the lines of a script, or one line.
 pub fn answer(out: &mut Text, taken: usize, case: &[u8]) -> usize {

@@ -1,13 +1,6 @@
 // Ops 1 to 5 and 14: the readers of reports, acknowledgements and whole frames, and the replies of an acknowledgement.
 // Each puts the numbers that stand after its op.
-use crate::argument::flag_at;
-use crate::argument::rest;
-use crate::argument::u8_at;
-use crate::argument::u16_at;
-use crate::argument::usize_at;
-use crate::line::Text;
-use crate::line::number;
-use crate::line::row;
+use crate::numbers::usize_at;
 use crate::replies;
 use crate::values;
 use ld2410::Ack;
@@ -16,6 +9,13 @@ use ld2410::Frame;
 use ld2410::Report;
 use ld2410::Span;
 use ld2410::TargetState;
+use replay_io::argument::flag_at;
+use replay_io::argument::rest;
+use replay_io::argument::u8_at;
+use replay_io::argument::u16_at;
+use replay_io::line::Text;
+use replay_io::line::number;
+use replay_io::line::row;
 
 // Op 1, on a byte.
 pub fn target_state(out: &mut Text, taken: usize, argument: &[u8]) -> usize {

@@ -1,9 +1,4 @@
 // What an acknowledgement answers: `expect` of a word and the four replies, each its refusal and then its fields.
-use crate::line::Row;
-use crate::line::Text;
-use crate::line::bytes;
-use crate::line::number;
-use crate::line::row;
 use crate::values::gates;
 use ld2410::Ack;
 use ld2410::EnableConfigResult;
@@ -11,6 +6,11 @@ use ld2410::FirmwareVersionResult;
 use ld2410::MacResult;
 use ld2410::ParametersResult;
 use ld2410::SpanResult;
+use replay_io::line::Row;
+use replay_io::line::Text;
+use replay_io::line::bytes;
+use replay_io::line::number;
+use replay_io::line::row;
 
 // `expect` of the awaited word, then the replies, on an acknowledgement and the bytes that its payload stands in.
 pub fn all(out: &mut Text, taken: usize, ack: Ack, awaited: u16, data: &[u8]) -> usize {

@@ -1,10 +1,5 @@
 // Ops 10, 11 and 13: a script of calls on one parser, handed on from call to call. Each puts a line, and a closing line
 // follows.
-use crate::argument::u8_at;
-use crate::argument::u16_at;
-use crate::line;
-use crate::line::Row;
-use crate::line::Text;
 use crate::values;
 use frame::no_frame;
 use ld2410::FedSlice;
@@ -13,6 +8,11 @@ use ld2410::MAX_FRAME;
 use ld2410::Parser;
 use ld2410::Span;
 use ld2410::Taken;
+use replay_io::argument::u8_at;
+use replay_io::argument::u16_at;
+use replay_io::line;
+use replay_io::line::Row;
+use replay_io::line::Text;
 use wire::min;
 ghost use Prim.Native.Nat.{_≤_};
 ghost use lib.ListN.{length};

@@ -1,9 +1,4 @@
 // The values of the link as numbers of a line: a function for each type, its fields first, then what its accessors say.
-use crate::line::Row;
-use crate::line::Text;
-use crate::line::bytes;
-use crate::line::number;
-use crate::line::row;
 use ld2410::Ack;
 use ld2410::Engineering;
 use ld2410::Frame;
@@ -13,6 +8,11 @@ use ld2410::MaybeTarget;
 use ld2410::MaybeU8;
 use ld2410::Report;
 use ld2410::TargetState;
+use replay_io::line::Row;
+use replay_io::line::Text;
+use replay_io::line::bytes;
+use replay_io::line::number;
+use replay_io::line::row;
 
 // A target state: its byte, then what it says.
 pub fn target_state(state: TargetState) -> Row {

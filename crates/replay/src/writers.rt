@@ -1,22 +1,23 @@
 // Ops 6 to 8: the writers of commands, reports and acknowledgements. An argument is a buffer's length, the byte that
 // fills it, and the value that is written.
-use crate::argument::flag_at;
-use crate::argument::rest;
-use crate::argument::u8_at;
-use crate::argument::u16_at;
-use crate::commands::command_in;
-use crate::commands::is_command;
-use crate::line::Row;
-use crate::line::Text;
-use crate::line::bytes;
-use crate::line::row;
 use ld2410::Engineering;
+use ld2410::Error;
 use ld2410::MAX_EXTRA;
 use ld2410::Report;
 use ld2410::TargetState;
 use ld2410::WriteResult;
 use ld2410::write_ack;
 use ld2410::write_report;
+use replay_io::argument::flag_at;
+use replay_io::argument::rest;
+use replay_io::argument::u8_at;
+use replay_io::argument::u16_at;
+use replay_io::commands::MaybeCommand;
+use replay_io::commands::command_in;
+use replay_io::line::Row;
+use replay_io::line::Text;
+use replay_io::line::bytes;
+use replay_io::line::row;
 use wire::copy_prefix;
 use wire::gate_array;
 use wire::min;
@@ -34,10 +35,10 @@ const STATIONARY_AT: usize = MOVING_AT + 9;
 
 const EXTRA_AT: usize = STATIONARY_AT + 9;
 
-// Whether the argument of an op has a value to write, if the op is a writer's: any acknowledgement is one.
+// Whether the argument of an op has a value to write, if the op is a writer's: any acknowledgement is one, and op 6
+// asks its command.
 pub fn has_value(op: u8, argument: &[u8]) -> bool {
     match op {
-        6 => is_command(value_in(argument)),
         7 => u8_at(argument, VALUE_AT) <= 3,
         _ => true,
     }
@@ -85,13 +86,21 @@ fn written(op: u8, value: &[u8], buffer: &mut [u8]) -> Row {
 // Writes into the buffer: a command, a report, or an acknowledgement by its word, `ok`, status and payload.
 fn answer_of(op: u8, value: &[u8], buffer: &mut [u8]) -> WriteResult {
     match op {
-        6 => command_in(value).encode(buffer),
+        6 => encode(value, buffer),
         7 => write_report(buffer, report_in(value)),
         _ => {
             let word = u16_at(value, 0);
             let ok = flag_at(value, 2);
             write_ack(buffer, word, ok, u16_at(value, 3), rest(value, 5))
         }
+    }
+}
+
+// Encodes the command that the bytes are. Op 6 is not answered with bytes that are none.
+fn encode(value: &[u8], buffer: &mut [u8]) -> WriteResult {
+    match command_in(value) {
+        MaybeCommand::Some(command) => command.encode(buffer),
+        MaybeCommand::None => WriteResult::Err(Error::UnknownCommand),
     }
 }
 

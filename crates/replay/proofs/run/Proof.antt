@@ -1,18 +1,15 @@
--- `replay::run` is safe and ends: the kept bytes stay within the buffer, and the turns that are left fall.
--- Assumes nothing.
+-- `replay::run` is safe and ends: the buffer keeps its length, and the turns that are left fall. Assumes nothing.
 use mathlib.Core.Path.{_≡_}
-use Prim.Native.Nat.{_≤_}
 use borrow.Author.Needs.{needs}
 use lib.ListN.{length}
 use Rattle.replay.proofs.run.Statement.{statement}
 use Rattle.replay.proofs.run.Tie as tie
 
 abbrev Inv-loop : tie.InvT-loop
-Inv-loop input₀ out₀ kept₀ taken₀ turns₀ input out kept taken turns =
-    (length input ≡ length input₀) × (kept ≤ length input)
+Inv-loop input₀ out₀ case₀ taken₀ turns₀ input out case taken turns = length input ≡ length input₀
 
 abbrev μ-loop : tie.MeasureT-loop
-μ-loop input₀ out₀ kept₀ taken₀ turns₀ input out kept taken turns = turns
+μ-loop input₀ out₀ case₀ taken₀ turns₀ input out case taken turns = turns
 
 pub run-spec : {M : Type 1} → statement M
 run-spec =
@@ -20,13 +17,14 @@ run-spec =
     (tie.spec
     Inv-loop
     μ-loop
+    (λ c κs. search needs)
     (λ c. search needs)
+    (λ c κs. search needs)
+    (λ c κs. search needs)
     (λ c κs. search needs)
     (λ c. search needs)
     (λ c. search needs)
     (λ c. search needs)
-    (λ c κs. search needs)
-    (λ c κs. search needs)
     (λ c. search needs)
     (λ c. search needs)
     (λ c κs. search needs)

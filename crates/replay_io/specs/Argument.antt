@@ -1,0 +1,19 @@
+-- The fields of an argument: "Numbers in an argument are little-endian, and a truth value above 1 counts as 1."
+--   fieldAt n s i   the number in the n bytes of s from place i; 0 where they are not all there
+--   flagAt s i      the truth value at place i
+use mathlib.Core.List.{List}
+use mathlib.Core.Bool.{Bool}
+use mathlib.Core.Option.{Option, none, some}
+use Prim.Native.Nat.{ℕ}
+use lib.Dec.{ltb}
+use Rattle.wire.specs.Number.{numberAt}
+
+abbrev pub orZero : Option ℕ → ℕ
+orZero (some x) = x
+orZero none = 0
+
+unfoldable pub fieldAt : ℕ → List ℕ → ℕ → ℕ
+fieldAt n s i = orZero (numberAt n s i)
+
+abbrev pub flagAt : List ℕ → ℕ → Bool
+flagAt s i = ltb 0 (fieldAt 1 s i)

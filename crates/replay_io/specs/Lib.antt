@@ -1,0 +1,4 @@
+pub mod Argument
+pub mod Command
+pub mod Line
+pub mod Case

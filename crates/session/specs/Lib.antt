@@ -1,0 +1,4 @@
+pub mod Machine
+pub mod Returned
+pub mod Session
+pub mod Claims

@@ -1,0 +1,26 @@
+-- What the answer to a command returns, by document 01's column "Returned" and item 2's new numbers.
+--   sessionNumber e   the number of the refusal e
+--   sessionNeeded e   the bytes needed that stand beside 4; 0 beside every other number
+--   returnedSend r    the number and the bytes written that the answer r returns
+use Prim.Native.Nat.{ℕ}
+use Rattle.refusal.specs.Refusal.{Returned, accepted, numberOf, neededOf}
+use Rattle.session.specs.declared.SessionError.{SessionError}
+use Rattle.session.specs.declared.SessionError.the-variants as Why
+use Rattle.session.specs.declared.SendResult.{SendResult}
+use Rattle.session.specs.declared.SendResult.the-variants as Send
+
+-- "New numbers: 7, a command other than `EnableConfig` in a closed session; 8, any command while opening, waiting or
+-- closing"
+abbrev pub sessionNumber : SessionError → ℕ
+sessionNumber Why.NotOpen = 7
+sessionNumber Why.Busy = 8
+sessionNumber (Why.Encoding e) = numberOf e
+
+abbrev pub sessionNeeded : SessionError → ℕ
+sessionNeeded Why.NotOpen = 0
+sessionNeeded Why.Busy = 0
+sessionNeeded (Why.Encoding e) = neededOf e
+
+abbrev pub returnedSend : SendResult → Returned ℕ
+returnedSend (Send.Ok n) = accepted n
+returnedSend (Send.Err e) = record { number = sessionNumber e; needed = sessionNeeded e; value = 0 }

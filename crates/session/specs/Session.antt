@@ -1,0 +1,117 @@
+-- The calls of a session as functions, which the contracts equal. They need not be believed: that they move as Item 2's
+-- machine does, and that it leaves no choice, is the claim (Claims.antt).
+--   awaitedWord s     the word that is awaited, if one is
+--   isBusy s          a wait is on
+--   needsOpen s c     the session s is closed, and the command c is another than `EnableConfig`
+--   afterSending c    the session after the command c, sent
+--   sendOf s c n      sending c into a buffer of n bytes; bufferOf s c out, the buffer that it leaves
+--   isAwaited s f     the frame f is the awaited acknowledgement
+--   afterSuccess c    the session after a success of the command c that was waited for
+--   afterAck s ok     the session after the awaited acknowledgement
+--   receiveOf s f     handing over the frame f
+--   giveUpOf s        giving up
+use mathlib.Core.List.{List}
+use mathlib.Core.Bool.{Bool, true, false, cond, not, _&&_}
+use Prim.Native.Nat.{ℕ}
+use lib.Dec.{eqb}
+use Rattle.wire.specs.declared.number.MaybeU16.{MaybeU16}
+use Rattle.wire.specs.declared.number.MaybeU16.the-variants as Word
+use Rattle.writer.specs.Written.{writeResult, bufferAfter}
+use Rattle.writer.specs.declared.WriteResult.{WriteResult}
+use Rattle.writer.specs.declared.WriteResult.the-variants as Write
+use Rattle.frame.specs.declared.FrameKind.{FrameKind}
+use Rattle.frame.specs.declared.FrameKind.the-variants as Is
+use Rattle.frame.specs.declared.Frame.{Frame}
+use Rattle.command.specs.Command.{wordOf, commandFrame, unsupported}
+use Rattle.command.specs.declared.Command.{Command}
+use Rattle.session.specs.declared.Session.{Session}
+use Rattle.session.specs.declared.Session.the-variants.{Closed, Opening, Open, Waiting, Closing}
+use Rattle.session.specs.declared.SessionError.{SessionError}
+use Rattle.session.specs.declared.SessionError.the-variants as Why
+use Rattle.session.specs.declared.SendResult.the-variants as Send
+use Rattle.session.specs.declared.Sent.{Sent}
+use Rattle.session.specs.declared.ReceiveResult.the-variants as Receive
+use Rattle.session.specs.declared.Received.{Received}
+
+abbrev pub awaitedWord : Session → MaybeU16
+awaitedWord Closed = Word.None
+awaitedWord Opening = Word.Some 0x00FF
+awaitedWord Open = Word.None
+awaitedWord (Waiting c) = Word.Some (wordOf c)
+awaitedWord Closing = Word.Some 0x00FE
+
+abbrev pub isSome : MaybeU16 → Bool
+isSome (Word.Some w) = true
+isSome Word.None = false
+
+abbrev pub isBusy : Session → Bool
+isBusy s = isSome (awaitedWord s)
+
+abbrev pub isClosed : Session → Bool
+isClosed Closed = true
+isClosed Opening = false
+isClosed Open = false
+isClosed (Waiting c) = false
+isClosed Closing = false
+
+abbrev pub needsOpen : Session → Command → Bool
+needsOpen s c = isClosed s && not (eqb (wordOf c) 0x00FF)
+
+-- "`EnableConfig` .. leads to opening", "`EndConfig` leads to closing"
+abbrev pub afterSending : Command → Session
+afterSending c = cond (eqb (wordOf c) 0x00FF) Opening (cond (eqb (wordOf c) 0x00FE) Closing (Waiting c))
+
+-- "A refused command leaves the session where it was"
+abbrev pub refusedBy : SessionError → Session → Sent
+refusedBy e s = record { session = s; answer = Send.Err e }
+
+abbrev pub sentAs : WriteResult → Session → Command → Sent
+sentAs (Write.Ok n) s c = record { session = afterSending c; answer = Send.Ok n }
+sentAs (Write.Err e) s c = refusedBy (Why.Encoding e) s
+
+abbrev pub encodedBy : Session → Command → ℕ → Sent
+encodedBy s c n = sentAs (writeResult (unsupported c) (commandFrame c) n) s c
+
+-- "8 is tested first, then 7, both before 2 and 4"
+unfoldable pub sendOf : Session → Command → ℕ → Sent
+sendOf s c n = cond (isBusy s) (refusedBy Why.Busy s) (cond (needsOpen s c) (refusedBy Why.NotOpen s) (encodedBy s c n))
+
+unfoldable pub bufferOf : Session → Command → List ℕ → List ℕ
+bufferOf s c out = cond (isBusy s) out (cond (needsOpen s c) out (bufferAfter (unsupported c) (commandFrame c) out))
+
+abbrev pub isAck : FrameKind → Bool
+isAck Is.None = false
+isAck Is.Report = false
+isAck Is.Ack = true
+
+abbrev pub isWord : MaybeU16 → ℕ → Bool
+isWord (Word.Some w) v = eqb v w
+isWord Word.None v = false
+
+abbrev pub isAwaited : Session → Frame → Bool
+isAwaited s f = isAck (f .kind) && isWord (awaitedWord s) (f .ack .word)
+
+-- "a successful `Restart` closes, any other returns to open"
+abbrev pub afterSuccess : Command → Session
+afterSuccess c = cond (eqb (wordOf c) 0x00A3) Closed Open
+
+-- "opening becomes open on success (`ok` on) and closed on failure, closing becomes closed on success and open on
+-- failure"; without a wait there is no awaited acknowledgement
+abbrev pub afterAck : Session → Bool → Session
+afterAck Closed ok = Closed
+afterAck Opening ok = cond ok Open Closed
+afterAck Open ok = Open
+afterAck (Waiting c) ok = cond ok (afterSuccess c) Open
+afterAck Closing ok = cond ok Closed Open
+
+-- "The awaited ACK ends the wait", "Other ACKs and reports pass through and change nothing"
+abbrev pub receivedAs : Bool → Session → Bool → Received
+receivedAs true s ok = record { session = afterAck s ok; answer = Receive.Ended ok }
+receivedAs false s ok = record { session = s; answer = Receive.Passed }
+
+unfoldable pub receiveOf : Session → Frame → Received
+receiveOf s f = receivedAs (isAwaited s f) s (f .ack .ok)
+
+-- "The station may give up a wait, which closes the session; giving up with no wait on changes nothing"
+unfoldable pub giveUpOf : Session → Session
+giveUpOf s = cond (isBusy s) Closed s
