@@ -21,7 +21,7 @@ pub fn report(digest: u64, r: &Report) -> u64 {
     let moving = (r.moving_distance_cm as u64) << 8 ^ (r.moving_energy as u64) << 24;
     let stationary = (r.stationary_distance_cm as u64) << 32 ^ (r.stationary_energy as u64) << 48;
     let flag = (r.engineering.is_some() as u64) << 56;
-    let d = mix(digest, r.state.to_byte() as u64 ^ moving ^ stationary ^ flag);
+    let d = mix(digest, (r.state.to_byte() % 4) as u64 ^ moving ^ stationary ^ flag);
     match &r.engineering {
         Some(e) => engineering(d, r.detection_distance_cm as u64, e),
         // Where ours has no block, its fields are there and all 0.

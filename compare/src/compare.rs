@@ -8,7 +8,7 @@ use std::io;
 use std::path::Path;
 
 use crate::generate;
-use crate::intended;
+use crate::intended::{Intended, TABLE};
 use crate::options::Options;
 use crate::programs::{Program, PROGRAMS};
 use batch::Batch;
@@ -17,7 +17,8 @@ use tally::Tally;
 /// Bytes of cases that go through one run of our program.
 const BATCH_BYTES: usize = 4 << 20;
 
-/// Compares every op with the program that has it; true where nothing differs but what is intended.
+/// Compares every op with the program that has it; true where every answer is the expected one, and every expected one
+/// the original's but for what is intended.
 pub fn run(options: &Options) -> io::Result<bool> {
     let asked: Vec<_> = PROGRAMS.iter().zip(&options.paths).filter(|(program, _)| asked(program, options)).collect();
     for (program, path) in &asked {
@@ -33,7 +34,7 @@ pub fn run(options: &Options) -> io::Result<bool> {
     for tally in &tallies {
         println!("{}", tally.summary());
     }
-    print_intended(&tallies);
+    print_intended(&tallies, &options.ops);
     Ok(tallies.iter().all(Tally::clean))
 }
 
@@ -71,12 +72,12 @@ fn compare_op(op: u8, program: &Path, options: &Options) -> io::Result<Tally> {
     Ok(tally)
 }
 
-fn print_intended(tallies: &[Tally]) {
-    if intended::TABLE.is_empty() {
-        println!("intended differences: none");
-    }
-    for (place, entry) in intended::TABLE.iter().enumerate() {
-        let count: u64 = tallies.iter().map(|tally| tally.intended[place]).sum();
-        println!("intended difference, op {}: {count} lines: {}", entry.op, entry.reason);
+fn print_intended(tallies: &[Tally], ops: &[u8]) {
+    for (place, Intended { op, reason, .. }) in TABLE.iter().enumerate() {
+        if ops.contains(op) {
+            let cases: u64 = tallies.iter().map(|tally| tally.intended[place].0).sum();
+            let lines: u64 = tallies.iter().map(|tally| tally.intended[place].1).sum();
+            println!("intended difference, op {op}: {cases} cases, {lines} lines: {reason}");
+        }
     }
 }

@@ -1,30 +1,42 @@
-//! What our program must print, line for line. The original's counters stop where ours go on: so a script's answer is the
-//! model's, which must be the original's once its counters are lowered; every other answer is the oracle's.
+//! What our program must print, line for line. A script's answer is the model's of the division, since the original's
+//! counters stop where ours go on; a state byte is read by the model's rule, since the original knows no calibration.
+//! All else is the oracle's.
 
 use ld2410::access::ORIGINAL_MAX;
 
 use crate::case::{self, Case, Next};
 use crate::line;
-use crate::model::streams::{self, RULES};
+use crate::model::rules::{Rules, RULES};
+use crate::model::streams;
 use crate::oracle;
+use crate::oracle::states::States;
 
 /// Whether an op is a script of calls, whose last line has the counters.
-pub fn is_script(op: u8) -> bool {
+fn is_script(op: u8) -> bool {
     matches!(op, 10 | 11 | 13)
 }
 
-/// Appends the answer lines of a case; of a script, true where they are the model's.
-pub fn answer(case: Case<'_>, out: &mut Vec<u8>) -> bool {
-    let modelled = is_script(case.op) && streams::answer(case, &RULES, out).is_some();
-    if !modelled {
-        oracle::answer(case, out);
+/// Whether a model has a part in an op's answers that the original has too: they are to be held against the original's.
+pub fn is_modelled(op: u8) -> bool {
+    matches!(op, 1 | 2 | 5) || is_script(op)
+}
+
+/// Appends the answer lines of a case.
+pub fn answer(case: Case<'_>, out: &mut Vec<u8>) {
+    answer_by(case, &RULES, out);
+}
+
+/// Appends the answer lines of a case by these rules; the oracle answers for a parser that cannot be built.
+pub fn answer_by(case: Case<'_>, rules: &Rules, out: &mut Vec<u8>) {
+    let divided = is_script(case.op) && streams::answer(case, rules, out).is_some();
+    if !divided {
+        oracle::answer_by(case, States::By(rules.state), out);
     }
-    modelled
 }
 
 /// A script's last line as it is set beside the original's: each of the four counters lowered to where the original's
 /// stop. Another line stays as it is.
-pub fn lowered(closing: &[u8]) -> Vec<u8> {
+fn lowered(closing: &[u8]) -> Vec<u8> {
     let lowered = |text: &str| {
         let mut numbers = text.split(' ').map(str::parse).collect::<Result<Vec<u64>, _>>().ok()?;
         for counter in numbers.get_mut(1..5)? {
@@ -36,13 +48,13 @@ pub fn lowered(closing: &[u8]) -> Vec<u8> {
     text.and_then(lowered).map_or(closing.to_vec(), String::into_bytes)
 }
 
-/// A script's answer with its last line lowered.
-pub fn beside_original(answer: &[u8]) -> Vec<u8> {
-    let lines: Vec<_> = answer.split_inclusive(|&byte| byte == b'\n').collect();
-    let Some((closing, calls)) = lines.split_last() else {
-        return Vec::new();
-    };
-    [calls.concat(), lowered(closing)].concat()
+/// An answer of an op as it is set beside the original's: a script's last line is lowered.
+pub fn beside_original(op: u8, answer: &[u8]) -> Vec<u8> {
+    let lines: Vec<_> = line::lines(answer).collect();
+    match lines.split_last() {
+        Some((closing, calls)) if is_script(op) => [calls.concat(), lowered(closing)].concat(),
+        _ => answer.to_vec(),
+    }
 }
 
 /// The answers to a whole input, as a program with these ops prints them.

@@ -1,19 +1,129 @@
-//! The table of intended differences: which cases our program answers otherwise than the original, and why.
+//! The table of intended differences: which lines our program answers otherwise than the original, in which numbers,
+//! and why. By it an expected answer is held against the original's: lines that are meant differ, all others do not.
+
+use std::ops::{Range, RangeInclusive};
+
+use ld2410::{Frame, Report};
 
 use crate::case::Case;
+use crate::expected::beside_original;
+use crate::line::{lines, text_of};
+use crate::oracle;
+use crate::oracle::readers::{STATE_IN_DATA, STATE_IN_FRAME};
+use crate::oracle::streams::delivering;
 
+type StateBytes = RangeInclusive<u8>;
+
+#[derive(Clone)]
 pub struct Intended {
     pub op: u8,
-    /// Whether a case's argument is one of those meant. Its answers keep their number of lines.
-    pub applies: fn(&[u8]) -> bool,
+    /// The state bytes that are meant.
+    pub states: StateBytes,
+    /// The lines of the answer to an argument that have such a byte, by their places.
+    pub lines: fn(&[u8], &StateBytes) -> Vec<usize>,
+    /// The numbers of such a line that may differ, by their places, the op's being 0: the state, and what follows from
+    /// it.
+    pub numbers: [Range<usize>; 2],
     pub reason: &'static str,
 }
 
-/// Empty: once its counters are lowered, everything is answered as the original answers it.
-pub const TABLE: &[Intended] = &[];
+pub const TABLE: [Intended; 6] = [
+    calibration(1, alone, [1..2, 2..5]),
+    calibration(2, in_data, of_report(2)),
+    calibration(5, in_frame, of_report(3)),
+    calibration(10, |script, states| delivering(10, script, states), of_report(3)),
+    calibration(11, |script, states| delivering(11, script, states), of_report(3)),
+    calibration(13, |argument, states| delivering(13, argument, states), of_report(3)),
+];
 
-/// The place in a table of the entry that a case belongs to.
-pub fn entry(table: &[Intended], case: Case<'_>) -> Option<usize> {
-    let meant = |entry: &Intended| entry.op == case.op && (entry.applies)(case.argument);
-    table.iter().position(meant)
+const fn calibration(op: u8, lines: fn(&[u8], &StateBytes) -> Vec<usize>, numbers: [Range<usize>; 2]) -> Intended {
+    let reason = "state bytes 04 to 06 are states of their own, without any target (document 02, item 3)";
+    Intended { op, states: 0x04..=0x06, lines, numbers, reason }
+}
+
+/// The state, and the seven numbers of `moving`, `stationary` and `present`, of a REPORT that starts at this place.
+const fn of_report(start: usize) -> [Range<usize>; 2] {
+    [start..start + 1, start + 36..start + 43]
+}
+
+fn alone(argument: &[u8], states: &StateBytes) -> Vec<usize> {
+    first_line(argument.first().is_some_and(|byte| states.contains(byte)))
+}
+
+/// Data that the reader accepts.
+fn in_data(data: &[u8], states: &StateBytes) -> Vec<usize> {
+    first_line(Report::parse(data).is_ok() && states.contains(&data[STATE_IN_DATA]))
+}
+
+/// A frame that the reader accepts.
+fn in_frame(bytes: &[u8], states: &StateBytes) -> Vec<usize> {
+    first_line(matches!(Frame::parse(bytes), Ok(Frame::Report(_))) && states.contains(&bytes[STATE_IN_FRAME]))
+}
+
+/// The one line of an answer, if it is meant.
+fn first_line(meant: bool) -> Vec<usize> {
+    if meant {
+        vec![0]
+    } else {
+        Vec::new()
+    }
+}
+
+impl Intended {
+    /// Whether a line differs from the original's as is meant: in a number that may, and in no other.
+    fn allows(&self, expected: &[u8], original: &[u8]) -> bool {
+        let (ours, originals) = (numbers(expected), numbers(original));
+        let may_differ = |place: usize| self.numbers.iter().any(|numbers| numbers.contains(&place));
+        let as_meant = |place: usize| may_differ(place) || ours[place] == originals[place];
+        expected != original && ours.len() == originals.len() && (0..ours.len()).all(as_meant)
+    }
+}
+
+/// The numbers of a line, as they are printed.
+fn numbers(line: &[u8]) -> Vec<&[u8]> {
+    line.split(|&byte| byte == b' ').collect()
+}
+
+/// The lines of an answer that fall under an entry: its place in the table, and theirs in the answer.
+pub struct Meant {
+    pub entry: usize,
+    pub lines: Vec<usize>,
+}
+
+/// What of a case falls under a table, if anything does.
+fn meant(table: &[Intended], case: Case<'_>) -> Option<Meant> {
+    let of_op = table.iter().enumerate().filter(|(_, entry)| entry.op == case.op);
+    let mut meant =
+        of_op.map(|(place, entry)| Meant { entry: place, lines: (entry.lines)(case.argument, &entry.states) });
+    meant.find(|meant| !meant.lines.is_empty())
+}
+
+/// A line that is not as the table says, and the original's.
+pub struct Violation {
+    pub original: String,
+    pub expected: String,
+}
+
+/// Holds an expected answer, its counters lowered, against the original's: each line that is meant differs as its entry
+/// allows, and each other is equal. Gives what was meant, or the first line of which this does not hold.
+pub fn hold(table: &[Intended], case: Case<'_>, expected: &[u8]) -> Result<Option<Meant>, Violation> {
+    let mut original = Vec::new();
+    oracle::answer(case, &mut original);
+    let expected = beside_original(case.op, expected);
+    let meant = meant(table, case);
+    let holds = |place: usize, ours: &[u8], original: &[u8]| match &meant {
+        Some(meant) if meant.lines.contains(&place) => table[meant.entry].allows(ours, original),
+        _ => ours == original,
+    };
+    let (mut ours, mut originals) = (lines(&expected), lines(&original));
+    for place in 0.. {
+        match (ours.next(), originals.next()) {
+            (None, None) => break,
+            (Some(ours), Some(original)) if holds(place, ours, original) => {}
+            (ours, original) => {
+                return Err(Violation { original: text_of(original).into(), expected: text_of(ours).into() });
+            }
+        }
+    }
+    Ok(meant)
 }

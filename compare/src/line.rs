@@ -40,6 +40,16 @@ pub fn none(out: &mut Vec<u8>, op: u8) {
     out.extend(b" none\n");
 }
 
+/// The lines of an answer, each with its line feed.
+pub fn lines(answer: &[u8]) -> impl Iterator<Item = &[u8]> {
+    answer.split_inclusive(|&byte| byte == b'\n')
+}
+
+/// A line as it is shown, also where there is none.
+pub fn text_of(line: Option<&[u8]>) -> &str {
+    line.map_or("nothing", |line| std::str::from_utf8(line).unwrap_or("bytes that are not text"))
+}
+
 fn push_decimal(out: &mut Vec<u8>, mut n: u64) {
     const MOST_DIGITS: usize = 20;
     let mut digits = [0; MOST_DIGITS];

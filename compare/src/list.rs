@@ -11,9 +11,9 @@ use std::io;
 use std::path::Path;
 
 use crate::case::Case;
-use crate::expected::{self, beside_original, is_script};
+use crate::expected::{self, is_modelled};
 use crate::generate::random::Random;
-use crate::oracle;
+use crate::intended::{self, TABLE};
 use crate::programs::{Program, PROGRAMS};
 
 /// The listed arguments of an op, the same at every call.
@@ -40,8 +40,8 @@ pub fn arguments(op: u8) -> Vec<Vec<u8>> {
 }
 
 /// Writes the list of these ops to `stdin` and its answers to `stdout` in the directory of the program that has them.
-/// The last case is cut short, and that before it has an op that the program has not. Nothing is written where a
-/// script's answer, its counters lowered, is not the original's.
+/// The last case is cut short, and that before it has an op that the program has not. Nothing is written where an
+/// answer is not the original's but for what is intended.
 pub fn write(directory: &Path, ops: &[u8]) -> io::Result<bool> {
     let program = program_of(directory)?;
     let mut input = Vec::new();
@@ -49,7 +49,8 @@ pub fn write(directory: &Path, ops: &[u8]) -> io::Result<bool> {
         for argument in arguments(op) {
             let case = Case { op, argument: &argument };
             if !agreed(case) {
-                return Err(io::Error::other(format!("the model and the original disagree on a case of op {op}")));
+                let message = format!("a case of op {op} is not as the table of intended differences says");
+                return Err(io::Error::other(message));
             }
             case.write(&mut input);
         }
@@ -72,10 +73,9 @@ fn program_of(directory: &Path) -> io::Result<&'static Program> {
     PROGRAMS.iter().find(named).ok_or_else(|| io::Error::other(message()))
 }
 
-/// Whether the expected answer is the original's, once its counters are lowered.
+/// Whether the expected answer is the original's but for what is intended.
 fn agreed(case: Case<'_>) -> bool {
-    let (mut answer, mut original) = (Vec::new(), Vec::new());
+    let mut answer = Vec::new();
     expected::answer(case, &mut answer);
-    oracle::answer(case, &mut original);
-    original == if is_script(case.op) { beside_original(&answer) } else { answer }
+    !is_modelled(case.op) || intended::hold(&TABLE, case, &answer).is_ok()
 }

@@ -1,9 +1,11 @@
 //! Naive models: the frame writers, the command reader and the division of a stream, written from document 01 alone,
-//! and the session, from document 02, item 2.
+//! the session, from document 02, item 2, and the states, from its item 3.
 
 pub mod commands;
 pub mod division;
 pub mod families;
+pub mod rules;
 pub mod session;
+pub mod state;
 pub mod streams;
 pub mod writers;

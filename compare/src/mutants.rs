@@ -1,15 +1,18 @@
-//! Wrong variants of the expected answers, each a mistake that an implementation could make. The comparison must
-//! notice every one of them.
+//! Wrong variants of the expected answers, each a mistake that an implementation could make, and of the table of
+//! intended differences. The comparison must notice every one of them.
 
 mod parsers;
 mod readers;
 mod sessions;
+mod states;
 mod streams;
+mod tables;
 mod writers;
 
 use crate::case::Case;
 use crate::expected;
-use crate::model::streams::{self as streams_model, Rules};
+use crate::intended::{self, Intended};
+use crate::model::rules::Rules;
 use sessions::{edit_events, Seen};
 
 /// Numbers of a closing line; a call's line has more.
@@ -28,8 +31,10 @@ enum Wrong {
     Lines(fn(&[u8], &mut Vec<Vec<u64>>)),
     /// The right answer to another argument.
     Argument(fn(&mut Vec<u8>)),
-    /// A script's answer by other rules of the stream.
+    /// The answer by other rules.
     Rules(Rules),
+    /// The right answer, held against the original's by another table of intended differences.
+    Table(Vec<Intended>),
     /// The right answer to a station script with the numbers of an event's line changed, seen beside the event.
     Events(fn(&Seen<'_>, &mut Vec<u64>)),
 }
@@ -55,12 +60,17 @@ impl Mutant {
         Self { op, mistake, wrong }
     }
 
+    const fn table(op: u8, mistake: &'static str, table: Vec<Intended>) -> Self {
+        let wrong = Wrong::Table(table);
+        Self { op, mistake, wrong }
+    }
+
     const fn events(op: u8, mistake: &'static str, edit: fn(&Seen<'_>, &mut Vec<u64>)) -> Self {
         let wrong = Wrong::Events(edit);
         Self { op, mistake, wrong }
     }
 
-    /// Whether this variant answers a case otherwise than expected.
+    /// Whether this variant answers a case otherwise than expected; or, a table, is against the right answer.
     pub fn differs(&self, case: Case<'_>, expected: &[u8]) -> bool {
         match &self.wrong {
             Wrong::Numbers(edit) => changed_by(expected, |lines| {
@@ -76,8 +86,10 @@ impl Mutant {
             }
             Wrong::Rules(rules) => {
                 let mut answer = Vec::new();
-                streams_model::answer(case, rules, &mut answer).is_some() && answer != expected
+                expected::answer_by(case, rules, &mut answer);
+                answer != expected
             }
+            Wrong::Table(table) => intended::hold(table, case, expected).is_err(),
             Wrong::Events(edit) => changed_by(expected, |lines| edit_events(case.argument, lines, *edit)),
         }
     }
@@ -94,9 +106,11 @@ fn changed_by(answer: &[u8], edit: impl FnOnce(&mut Vec<Vec<u64>>)) -> bool {
 /// The wrong variants of an op.
 pub fn of(op: u8) -> Vec<Mutant> {
     let mut all = readers::mutants();
+    all.extend(states::mutants());
     all.extend(writers::mutants());
     all.extend(streams::mutants());
     all.extend(parsers::mutants());
+    all.extend(tables::mutants());
     all.extend(sessions::mutants());
     all.retain(|mutant| mutant.op == op);
     all

@@ -1,5 +1,7 @@
 //! Frames that the documents print: case B of document 01, and the frames of the record of published ones.
 
+use crate::oracle::readers::STATE_IN_FRAME;
+
 pub const B: &str = "F4 F3 F2 F1 0D 00 02 AA 03 78 00 3C 96 00 2D C8 00 55 00 F8 F7 F6 F5";
 
 pub const REPORTS: [&str; 3] = [
@@ -56,6 +58,15 @@ pub fn bytes(hex: &str) -> Vec<u8> {
 /// The data of a frame: what stands between its length and its tail.
 pub fn data(frame: &[u8]) -> &[u8] {
     &frame[6..frame.len() - 4]
+}
+
+/// B and the published engineering report, with another state byte.
+pub fn with_state(state: u8) -> [Vec<u8>; 2] {
+    [REPORTS[0], REPORTS[2]].map(|text| {
+        let mut frame = bytes(text);
+        frame[STATE_IN_FRAME] = state;
+        frame
+    })
 }
 
 /// Every printed frame.

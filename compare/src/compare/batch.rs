@@ -7,16 +7,16 @@ use std::thread;
 
 use super::tally::Tally;
 use crate::case::Case;
-use crate::expected::{self, beside_original, is_script, lowered};
-use crate::oracle;
+use crate::expected::{self, is_modelled};
+use crate::intended::{self, TABLE};
+use crate::line::{lines, text_of};
 use crate::station::{events, STATION};
 
-/// Where a case's argument starts in a batch's input, and where it, its answers and the original's answers end.
+/// Where a case's argument starts in a batch's input, and where it and its answers end.
 struct Ends {
     start: usize,
     end: usize,
     answers: usize,
-    original: usize,
 }
 
 pub struct Batch {
@@ -24,51 +24,33 @@ pub struct Batch {
     input: Vec<u8>,
     /// What our program must print.
     expected: Vec<u8>,
-    /// The original's answers to scripts: ours must be these once its counters are lowered.
-    original: Vec<u8>,
     ends: Vec<Ends>,
-    /// Whether the model's answers are the original's.
-    agreed: bool,
 }
 
 impl Batch {
     pub fn new(op: u8) -> Self {
-        let (input, expected, original, ends) = (Vec::new(), Vec::new(), Vec::new(), Vec::new());
-        Self { op, input, expected, original, ends, agreed: true }
+        Self { op, input: Vec::new(), expected: Vec::new(), ends: Vec::new() }
     }
 
     pub fn bytes(&self) -> usize {
         self.input.len()
     }
 
+    /// Adds a case. An expected answer that a model has a part in is held against the original's at once; ours, which
+    /// must be the expected one, thereby too.
     pub fn add(&mut self, argument: &[u8], tally: &mut Tally) {
         let case = Case { op: self.op, argument };
-        let (before, original_before) = (self.expected.len(), self.original.len());
+        let before = self.expected.len();
         case.write(&mut self.input);
-        let modelled = expected::answer(case, &mut self.expected);
-        if is_script(self.op) {
-            oracle::answer(case, &mut self.original);
+        expected::answer(case, &mut self.expected);
+        if is_modelled(self.op) {
+            tally.hold(case, intended::hold(&TABLE, case, &self.expected[before..]));
         }
         if self.op == STATION {
             tally.events += events(argument).count() as u64;
         }
-        if modelled {
-            self.hold_model(case, before, original_before, tally);
-        }
         let end = self.input.len();
-        let (answers, original) = (self.expected.len(), self.original.len());
-        self.ends.push(Ends { start: end - argument.len(), end, answers, original });
-    }
-
-    /// Holds the model's answer to a script against the original's, which begin at these places.
-    fn hold_model(&mut self, case: Case<'_>, model: usize, original: usize, tally: &mut Tally) {
-        tally.modelled += 1;
-        let (model, original) = (beside_original(&self.expected[model..]), &self.original[original..]);
-        if model != original {
-            let (original, model) = first_differing_lines(original, &model);
-            tally.model_difference(case, original, model);
-            self.agreed = false;
-        }
+        self.ends.push(Ends { start: end - argument.len(), end, answers: self.expected.len() });
     }
 
     /// Runs the batch, counts what differs, and empties it.
@@ -79,7 +61,7 @@ impl Batch {
         let got = answers_of(program, &self.input)?;
         tally.cases += self.ends.len() as u64;
         tally.lines += lines(&self.expected).count() as u64;
-        if got != self.expected || !self.agreed {
+        if got != self.expected {
             self.differences(&got, tally);
         }
         *self = Self::new(self.op);
@@ -89,34 +71,19 @@ impl Batch {
 
     fn differences(&self, got: &[u8], tally: &mut Tally) {
         let mut got = lines(got);
-        let (mut answered, mut original) = (0, 0);
+        let mut answered = 0;
         for ends in &self.ends {
             let case = Case { op: self.op, argument: &self.input[ends.start..ends.end] };
-            let expected: Vec<_> = lines(&self.expected[answered..ends.answers]).collect();
-            let ours: Vec<_> = expected.iter().map(|_| got.next()).collect();
-            for (&expected, line) in expected.iter().zip(&ours) {
-                if *line != Some(expected) {
-                    tally.difference(Some(case), text(expected), line.map_or("nothing", text));
+            for expected in lines(&self.expected[answered..ends.answers]) {
+                let ours = got.next();
+                if ours != Some(expected) {
+                    tally.difference(Some(case), text_of(Some(expected)), text_of(ours));
                 }
             }
-            if is_script(self.op) {
-                hold_original(case, &ours, &self.original[original..ends.original], tally);
-            }
-            (answered, original) = (ends.answers, ends.original);
+            answered = ends.answers;
         }
         for surplus in got {
-            tally.difference(None, "nothing", text(surplus));
-        }
-    }
-}
-
-/// Holds our answer to a script, its counters lowered, against the original's.
-fn hold_original(case: Case<'_>, ours: &[Option<&[u8]>], original: &[u8], tally: &mut Tally) {
-    let last = ours.len() - 1;
-    for (place, (original, line)) in lines(original).zip(ours).enumerate() {
-        let shown = line.map(|line| if place == last { lowered(line) } else { line.to_vec() });
-        if shown.as_deref() != Some(original) {
-            tally.difference(Some(case), text(original), shown.as_deref().map_or("nothing", text));
+            tally.difference(None, text_of(None), text_of(Some(surplus)));
         }
     }
 }
@@ -132,22 +99,4 @@ pub fn answers_of(program: &Path, input: &[u8]) -> io::Result<Vec<u8>> {
         child.wait_with_output()
     });
     output.map(|output| output.stdout).map_err(named)
-}
-
-fn lines(text: &[u8]) -> impl Iterator<Item = &[u8]> {
-    text.split_inclusive(|&byte| byte == b'\n')
-}
-
-fn text(line: &[u8]) -> &str {
-    std::str::from_utf8(line).unwrap_or("bytes that are not text")
-}
-
-fn first_differing_lines<'a>(one: &'a [u8], other: &'a [u8]) -> (&'a str, &'a str) {
-    let (mut one, mut other) = (lines(one), lines(other));
-    loop {
-        match (one.next(), other.next()) {
-            (a, b) if a == b && a.is_some() => {}
-            (a, b) => return (a.map_or("nothing", text), b.map_or("nothing", text)),
-        }
-    }
 }

@@ -4,7 +4,7 @@ use std::fmt::Write as _;
 use std::io::{self, IsTerminal, Write as _};
 
 use crate::case::Case;
-use crate::intended;
+use crate::intended::{Meant, Violation, TABLE};
 
 /// Argument bytes that a named difference shows at most.
 const SHOWN_BYTES: usize = 400;
@@ -16,14 +16,14 @@ pub struct Tally {
     pub lines: u64,
     /// Events of station scripts.
     pub events: u64,
-    /// Lines of ours that are not the expected ones, and those of scripts that, lowered, are not the original's: one line
-    /// may count for both.
+    /// Lines of ours that are not the expected ones.
     pub differences: u64,
-    /// Scripts held against the model of the division, and how many of them differed.
-    pub modelled: u64,
-    pub model_differences: u64,
-    /// Lines that differ as the table of intended differences says, by entry.
-    pub intended: Vec<u64>,
+    /// Expected answers held against the original's, and how many of them are not as the table of intended differences
+    /// says.
+    held: u64,
+    violations: u64,
+    /// Cases and lines that differ as the table says, by entry.
+    pub intended: Vec<(u64, u64)>,
 }
 
 impl Tally {
@@ -42,49 +42,53 @@ impl Tally {
             lines: 0,
             events: 0,
             differences: 0,
-            modelled: 0,
-            model_differences: 0,
-            intended: vec![0; intended::TABLE.len()],
+            held: 0,
+            violations: 0,
+            intended: vec![(0, 0); TABLE.len()],
         }
     }
 
     pub fn clean(&self) -> bool {
-        self.differences == 0 && self.model_differences == 0
+        self.differences == 0 && self.violations == 0
     }
 
     /// Counts a line that differs; the first is named with its bytes.
     pub fn difference(&mut self, case: Option<Case<'_>>, expected: &str, got: &str) {
-        if let Some(entry) = case.and_then(|case| intended::entry(intended::TABLE, case)) {
-            self.intended[entry] += 1;
-            return;
-        }
         if self.differences == 0 {
             self.end_progress();
             println!("first difference of {}", self.what);
-            name(case, expected, got);
+            name(case, [("expected", expected), ("got", got)]);
         }
         self.differences += 1;
     }
 
-    /// Counts a script on which the model of the division and the original disagree; the first is named.
-    pub fn model_difference(&mut self, case: Case<'_>, original: &str, model: &str) {
-        if self.model_differences == 0 {
-            self.end_progress();
-            println!("the model of the division differs from the original, {}", self.what);
-            name(Some(case), original, model);
+    /// Counts an expected answer that was held against the original's; the first one against the table is named.
+    pub fn hold(&mut self, case: Case<'_>, outcome: Result<Option<Meant>, Violation>) {
+        self.held += 1;
+        match outcome {
+            Ok(None) => {}
+            Ok(Some(meant)) => {
+                let (cases, lines) = &mut self.intended[meant.entry];
+                *cases += 1;
+                *lines += meant.lines.len() as u64;
+            }
+            Err(Violation { original, expected }) => {
+                if self.violations == 0 {
+                    self.end_progress();
+                    println!("not as the table of intended differences says, {}", self.what);
+                    name(Some(case), [("original", &original), ("expected", &expected)]);
+                }
+                self.violations += 1;
+            }
         }
-        self.model_differences += 1;
     }
 
     pub fn summary(&self) -> String {
         let Self { what, cases, lines, differences, .. } = self;
         let mut text = format!("{what}: {cases} cases, {lines} lines, {differences} differences");
-        if self.modelled > 0 {
-            let _ = write!(
-                text,
-                "; {} scripts held against the model of the division, {} differences",
-                self.modelled, self.model_differences
-            );
+        if self.held > 0 {
+            let (held, violations) = (self.held, self.violations);
+            let _ = write!(text, "; {held} expected answers held against the original's, {violations} not as intended");
         }
         if self.events > 0 {
             let _ = write!(text, "; {} events", self.events);
@@ -107,13 +111,15 @@ impl Tally {
     }
 }
 
-fn name(case: Option<Case<'_>>, expected: &str, got: &str) {
+/// Names a case and two lines that should have agreed.
+fn name(case: Option<Case<'_>>, lines: [(&str, &str); 2]) {
     match case {
         Some(case) => println!("  case:     op {}, {}", case.op, shown(case.argument)),
         None => println!("  case:     none, after the last answer"),
     }
-    println!("  expected: {}", expected.trim_end());
-    println!("  got:      {}", got.trim_end());
+    for (whose, line) in lines {
+        println!("  {:9} {}", format!("{whose}:"), line.trim_end());
+    }
 }
 
 /// The argument in hexadecimal; of a long one the first bytes.

@@ -35,7 +35,8 @@ pub fn damaged(good: &[u8], random: &mut Random) -> Vec<u8> {
     }
 }
 
-/// Every damage at every place: bits flipped, foreign bytes put in and in between, a byte dropped, doubled, the rest cut.
+/// Every damage at every place: bits flipped, foreign bytes put in and in between, a byte dropped or doubled, the rest
+/// cut.
 pub fn every_damage(good: &[u8], emit: &mut dyn FnMut(&[u8])) {
     for at in 0..good.len() {
         for bit in 0..8 {

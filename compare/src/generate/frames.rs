@@ -3,7 +3,9 @@
 use super::acks::{ack_near_good, good_ack, large_ack};
 use super::damage::{damaged, every_damage};
 use super::random::Random;
-use super::reports::{good_report, large_report, large_report_of, marked_data, report_near_good, BOUNDARY_LENGTHS};
+use super::reports::{
+    every_state, good_report, large_report, large_report_of, marked_data, report_near_good, BOUNDARY_LENGTHS,
+};
 use super::Cases;
 use crate::model::families::{Family, COMMAND, REPORT};
 use crate::published;
@@ -30,6 +32,9 @@ pub fn frame_cases(cases: &mut Cases<'_>) {
     for frame in published::all() {
         every_damage(&frame, &mut |bytes| cases.add(bytes));
         cases.add(&frame);
+    }
+    for data in every_state(&mut cases.random) {
+        cases.add(&REPORT.frame(&data));
     }
     boundary_lengths(cases);
     every_length_told(cases);

@@ -1,10 +1,11 @@
-//! Op 13: parsers built by hand, in range and out of it, with counters around where 32 bits and 64 bits end, and scripts
-//! on them.
+//! Op 13: parsers built by hand, in range and out of it, with counters around where 32 bits and 64 bits end, and
+//! scripts on them.
 
 use ld2410::access::{Counters, Fields as ParserFields, ORIGINAL_MAX};
 
 use super::frames::{framed, good_frame};
 use super::random::Random;
+use super::reports::STATES;
 use super::streams::{base_streams, by_bytes, mixed_calls, stream};
 use super::Cases;
 use crate::model::families::{COMMAND, REPORT};
@@ -131,8 +132,9 @@ pub fn counting_from(counter: u64) -> ParserFields {
     ParserFields { state: 0, kind: 0, matched: 0, len: 0, pos: 0, counters, buf: [0; 64] }
 }
 
-/// Broken starts of every length that one can have, each with the byte that breaks it: after a part of the header; after the
-/// first byte of a bad length; after the data, or a part of the tail. A header goes on with any byte, and data with any.
+/// Broken starts of every length that one can have, each with the byte that breaks it: after a part of the header;
+/// after the first byte of a bad length; after the data, or a part of the tail. A header goes on with any byte, and
+/// data with any.
 pub fn broken_starts() -> Vec<Vec<u8>> {
     let mut all = Vec::new();
     for family in [REPORT, COMMAND] {
@@ -148,8 +150,8 @@ pub fn broken_starts() -> Vec<Vec<u8>> {
     all
 }
 
-/// All four counters at and around the largest numbers of 32 and of 64 bits, and every kind of piece that counts, by bytes
-/// and by a slice.
+/// All four counters at and around the largest numbers of 32 and of 64 bits, and every kind of piece that counts, by
+/// bytes and by a slice.
 fn counters_around_their_ends(cases: &mut Cases<'_>) {
     let mut pieces = broken_starts();
     pieces.extend([
@@ -179,10 +181,12 @@ fn positions(len: usize) -> [usize; 6] {
     [0, 1, len.wrapping_sub(1), len, len.wrapping_add(1), usize::MAX]
 }
 
-/// Published frames, each begun at every place and finished, cut short or broken; streams of frames after any parser.
+/// Published frames, and reports with every kind of state, each begun at every place and finished, cut short or broken;
+/// streams of frames after any parser.
 fn every_place_of_a_frame(cases: &mut Cases<'_>) {
     let mut frames = published::all();
     frames.retain(|frame| frame[0] == REPORT.header[0] || frame[0] == COMMAND.header[0]);
+    frames.extend(STATES.into_iter().flat_map(published::with_state));
     let b = published::bytes(published::B);
     for frame in frames {
         for taken in 0..frame.len() {

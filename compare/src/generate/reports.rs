@@ -12,6 +12,22 @@ pub const MAX_GATES: [u8; 12] = [0, 1, 2, 3, 4, 5, 6, 7, 8, 9, 10, 255];
 pub const BOUNDARY_LENGTHS: [usize; 26] =
     [0, 1, 2, 3, 4, 5, 6, 7, 8, 9, 10, 11, 12, 13, 14, 53, 54, 55, 254, 255, 256, 257, 258, 259, 260, 261];
 
+/// State bytes of every kind: those of calibration, those around them, and those that a rule on some of the bits would
+/// take for one of them.
+pub const STATES: [u8; 20] = [
+    0x00, 0x01, 0x02, 0x03, 0x04, 0x05, 0x06, 0x07, 0x08, 0x0C, 0x0D, 0x0E, 0x0F, 0x14, 0x16, 0x44, 0x85, 0xFC, 0xFE,
+    0xFF,
+];
+
+/// Nine basic bytes; every other time the state is one of STATES.
+pub fn basic(random: &mut Random) -> [u8; 9] {
+    let mut basic = random.array();
+    if random.once_in(2) {
+        basic[0] = random.pick(&STATES);
+    }
+    basic
+}
+
 /// Report data: type, AA, nine basic bytes, what stands after them, 55, 00.
 pub fn report_data(data_type: u8, basic: [u8; 9], after: &[u8]) -> Vec<u8> {
     [&[data_type, 0xAA], &basic[..], after, &[0x55, 0x00]].concat()
@@ -27,12 +43,12 @@ pub fn block(max_moving: u8, max_stationary: u8, reserved: isize, random: &mut R
 /// Data that pass every check.
 pub fn good_report(random: &mut Random) -> Vec<u8> {
     if random.once_in(3) {
-        return report_data(2, random.array(), &[]);
+        return report_data(2, basic(random), &[]);
     }
     let reserved = random.pick(&[0, 0, 1, 2, 2, 3, 7, 8, 9, 12]);
     let (max_moving, max_stationary) = (random.below(9) as u8, random.below(9) as u8);
     let block = block(max_moving, max_stationary, reserved, random);
-    report_data(1, random.array(), &block)
+    report_data(1, basic(random), &block)
 }
 
 /// An engineering report of at least 300 and at most `most` data bytes.
@@ -46,11 +62,14 @@ pub fn large_report_of(length: usize, random: &mut Random) -> Vec<u8> {
     let (max_moving, max_stationary) = (random.below(9) as u8, random.below(9) as u8);
     let fixed = 2 + 9 + 2 + usize::from(max_moving) + usize::from(max_stationary) + 2 + 2;
     let block = block(max_moving, max_stationary, (length - fixed) as isize, random);
-    report_data(1, random.array(), &block)
+    report_data(1, basic(random), &block)
 }
 
 pub fn report_cases(cases: &mut Cases<'_>) {
     cases.up_to_two_bytes();
+    for data in every_state(&mut cases.random) {
+        cases.add(&data);
+    }
     every_gate_count(cases);
     every_reserved_count(cases);
     boundary_lengths(cases);
@@ -68,13 +87,27 @@ pub fn report_cases(cases: &mut Cases<'_>) {
     cases.draw_million(report_near_good);
 }
 
+/// Every state byte, in a basic report and in engineering ones.
+pub fn every_state(random: &mut Random) -> Vec<Vec<u8>> {
+    let mut all = Vec::new();
+    for state in 0..=255 {
+        let mut basic = random.array();
+        basic[0] = state;
+        all.push(report_data(2, basic, &[]));
+        for (max_moving, max_stationary, reserved) in [(0, 0, 0), (3, 5, 9), (8, 8, 2)] {
+            all.push(report_data(1, basic, &block(max_moving, max_stationary, reserved, random)));
+        }
+    }
+    all
+}
+
 fn every_gate_count(cases: &mut Cases<'_>) {
     for data_type in 0..=4 {
         for max_moving in MAX_GATES {
             for max_stationary in MAX_GATES {
                 for reserved in -3..=10 {
                     let block = block(max_moving, max_stationary, reserved, &mut cases.random);
-                    let basic = cases.random.array();
+                    let basic = basic(&mut cases.random);
                     cases.add(&report_data(data_type, basic, &block));
                 }
             }
@@ -85,7 +118,7 @@ fn every_gate_count(cases: &mut Cases<'_>) {
 fn every_reserved_count(cases: &mut Cases<'_>) {
     for reserved in (0..=300).chain(509..=515).chain(765..=770) {
         let block = block(8, 0, reserved, &mut cases.random);
-        let basic = cases.random.array();
+        let basic = basic(&mut cases.random);
         cases.add(&report_data(1, basic, &block));
     }
 }
@@ -137,7 +170,7 @@ pub fn report_near_good(random: &mut Random) -> Vec<u8> {
             let (moving, stationary) = (random.pick(&MAX_GATES[..11]), random.pick(&MAX_GATES[..11]));
             let reserved = random.below(14) as isize - 4;
             let block = block(moving, stationary, reserved, random);
-            report_data(data_type, random.array(), &block)
+            report_data(data_type, basic(random), &block)
         }
         _ => {
             let length = random.below(60);

@@ -6,7 +6,7 @@ use super::acks::ack_data;
 use super::damage::{damaged, every_damage, plain_damage};
 use super::frames::{framed, good_frame};
 use super::random::Random;
-use super::reports::good_report;
+use super::reports::{every_state, good_report};
 use super::Cases;
 use crate::model::families::{COMMAND, REPORT};
 use crate::published;
@@ -17,6 +17,11 @@ const LETTERS: [u8; 8] = [0xF4, 0xF3, 0xF2, 0xF1, 0xFD, 0xFC, 0x00, 0x02];
 
 pub fn script_cases(cases: &mut Cases<'_>) {
     cases.add(&[]);
+    for data in every_state(&mut cases.random) {
+        let frame = REPORT.frame(&data);
+        cases.add(&script(&[Call::Slice(&frame)]));
+        cases.add(&by_bytes(&frame));
+    }
     for stream in base_streams() {
         every_damage(&stream, &mut |damaged| cases.add(&by_slices(damaged, || 70)));
         plain_damage(&stream, &mut |damaged| cases.add(&by_bytes(damaged)));
@@ -37,8 +42,8 @@ pub fn script_cases(cases: &mut Cases<'_>) {
     cases.draw_million(any_script);
 }
 
-/// Frames of both families in turn; and frames whose data hold headers, tails and a whole frame.
-pub fn base_streams() -> [Vec<u8>; 2] {
+/// Frames of both families in turn; frames whose data hold headers, tails and a whole frame; reports of calibration.
+pub fn base_streams() -> [Vec<u8>; 3] {
     let b = published::bytes(published::B);
     let engineering = published::bytes(published::REPORTS[2]);
     let ack = published::bytes(published::ACKS[0]);
@@ -47,6 +52,7 @@ pub fn base_streams() -> [Vec<u8>; 2] {
     [
         [&engineering[..], &ack, &command, &b].concat(),
         [holding(&b), holding(&[REPORT.header, COMMAND.header].concat()), holding(&COMMAND.tail), b].concat(),
+        [0x04, 0x05, 0x06].map(|state| published::with_state(state).concat()).concat(),
     ]
 }
 

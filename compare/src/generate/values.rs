@@ -7,6 +7,7 @@ use super::Cases;
 
 /// Bytes of a report value, and where the fields stand in it that a writer checks.
 const REPORT_VALUE: usize = 39;
+const STATE: usize = 0;
 const FLAG: usize = 9;
 const MOVING_GATES: usize = 10;
 const STATIONARY_GATES: usize = 11;
@@ -17,11 +18,11 @@ const EXTRA_LEN: usize = 38;
 
 pub type ReportValue = [u8; REPORT_VALUE];
 
-/// A report value with the flag off and every per-gate field 0.
+/// A report value with a state that there is, the flag off and every per-gate field 0.
 pub fn basic_value(random: &mut Random) -> ReportValue {
     let mut value = [0; REPORT_VALUE];
     value[..FLAG].copy_from_slice(&random.array::<FLAG>());
-    value[0] %= 4;
+    value[STATE] %= 7;
     value
 }
 
@@ -54,6 +55,7 @@ pub fn report_argument(length: u16, fill: u8, value: &ReportValue) -> Vec<u8> {
 }
 
 pub fn report_value_cases(cases: &mut Cases<'_>) {
+    every_state(cases);
     every_count(cases);
     every_field_changed(cases);
     every_buffer_length(cases);
@@ -91,6 +93,26 @@ fn buffer_length(needed: u16, random: &mut Random) -> u16 {
     }
 }
 
+/// A value with this state, basic and with an engineering block, beside the length of its frame.
+pub fn values_with_state(state: u8, random: &mut Random) -> [(ReportValue, u16); 3] {
+    let values = [basic_value(random), engineering_value(1, 1, 0, random), engineering_value(9, 9, 8, random)];
+    values.map(|mut value| {
+        value[STATE] = state;
+        (value, frame_length(&value))
+    })
+}
+
+/// Every byte for a state, into buffers that are too short and long enough.
+fn every_state(cases: &mut Cases<'_>) {
+    for state in 0..=255 {
+        for (value, needed) in values_with_state(state, &mut cases.random) {
+            for length in [0, needed - 1, needed, needed + 1] {
+                cases.add(&report_argument(length, 0xA5, &value));
+            }
+        }
+    }
+}
+
 /// Every pair of gate counts and every count of reserved bytes, in range and around it.
 fn every_count(cases: &mut Cases<'_>) {
     for moving in (0..=11).chain([128, 255]) {
@@ -112,7 +134,7 @@ fn every_field_changed(cases: &mut Cases<'_>) {
     }
     for value in values {
         for at in 0..REPORT_VALUE {
-            for byte in [0, 1, 2, 3, 4, 8, 9, 10, 255] {
+            for byte in [0, 1, 2, 3, 4, 5, 6, 7, 8, 9, 10, 255] {
                 let mut changed = value;
                 changed[at] = byte;
                 cases.add(&report_argument(60, 0xA5, &changed));

@@ -4,7 +4,7 @@ use crate::generate::acks::{ack_data, parameters_payload, REPLY_WORDS, WORDS};
 use crate::generate::built_acks::{spans, BuiltAck};
 use crate::generate::damage::plain_damage;
 use crate::generate::random::Random;
-use crate::generate::reports::{block, large_report_of, marked_data, report_data};
+use crate::generate::reports::{block, large_report_of, marked_data, report_data, STATES};
 use crate::model::families::{Family, COMMAND, REPORT};
 use crate::published;
 
@@ -50,10 +50,8 @@ pub fn reports(random: &mut Random) -> Vec<Vec<u8>> {
             all.push(report_data(1, random.array(), &block(gates.0, gates.1, reserved, random)));
         }
     }
-    for state in [0, 1, 2, 4, 5, 6, 7, 0xFC, 0xFF] {
-        let mut basic = random.array();
-        basic[0] = state;
-        all.push(report_data(2, basic, &[]));
+    for frame in STATES.into_iter().flat_map(published::with_state) {
+        all.push(published::data(&frame).to_vec());
     }
     for reserved in [2, 3, 6, 7, 8, 9, 10, 254, 255, 256, 257, 300, 512] {
         all.push(report_data(1, random.array(), &block(4, 8, reserved, random)));
@@ -143,6 +141,7 @@ pub fn frames(random: &mut Random) -> Vec<Vec<u8>> {
         bytes[4..6].copy_from_slice(&u16::to_le_bytes(told));
         all.push(bytes);
     }
+    all.extend(STATES.into_iter().flat_map(published::with_state));
     all.push(REPORT.frame(&large_report_of(65_535, random)));
     all.push(COMMAND.frame(&ack_data(0x0161, 0, &random.bytes(65_531))));
     all

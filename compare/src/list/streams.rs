@@ -6,8 +6,10 @@ use crate::generate::acks::ack_data;
 use crate::generate::damage::plain_damage;
 use crate::generate::parsers::{after, argument, broken_starts, counting_from};
 use crate::generate::random::Random;
+use crate::generate::reports::STATES;
 use crate::generate::streams::{base_streams, by_bytes, by_slices, mixed_calls, stream};
 use crate::model::families::{COMMAND, REPORT};
+use crate::oracle::readers::STATE_IN_FRAME;
 use crate::published;
 use crate::script::{script, Call};
 
@@ -50,6 +52,14 @@ fn broken_frame_that_holds_b() -> Vec<u8> {
     frame
 }
 
+/// Reports of every kind of state by a slice, and those of a calibration that is done byte by byte.
+fn states() -> Vec<Vec<u8>> {
+    let frames = STATES.into_iter().flat_map(published::with_state);
+    let mut all: Vec<_> = frames.map(|frame| script(&[Call::Slice(&frame)])).collect();
+    all.extend(published::with_state(0x05).map(|frame| by_bytes(&frame)));
+    all
+}
+
 pub fn scripts(random: &mut Random) -> Vec<Vec<u8>> {
     let mut all = Vec::new();
     for row in rows() {
@@ -57,6 +67,7 @@ pub fn scripts(random: &mut Random) -> Vec<Vec<u8>> {
         all.push(script(&[Call::Slice(&row)]));
     }
     all.push(script(&[Call::Slice(&[0xF4, 0xF3]), Call::Reset]));
+    all.extend(states());
     all.extend(limits().iter().map(|stream| by_slices(stream, || 80)));
     all.extend(published::all().iter().map(|frame| script(&[Call::Slice(frame)])));
     for stream in base_streams() {
@@ -82,6 +93,7 @@ pub fn scripts(random: &mut Random) -> Vec<Vec<u8>> {
 pub fn lent_scripts() -> Vec<Vec<u8>> {
     let mut all: Vec<_> = rows().iter().map(|row| script(&[Call::Slice(row)])).collect();
     all.push(by_bytes(&published::bytes(published::B)));
+    all.extend(states());
     all.push(script(&[Call::Slice(&[0x00, 0xF4, 0xF3]), Call::Reset, Call::Feed(0xF4), Call::Slice(&[])]));
     all.push(script(&[Call::Slice(&broken_frame_that_holds_b())]));
     all.extend(limits().iter().map(|stream| by_slices(stream, || 80)));
@@ -111,6 +123,14 @@ pub fn built_parsers(random: &mut Random) -> Vec<Vec<u8>> {
             all.push(argument(&parser, &script(&[Call::Slice(&frame[taken..]), Call::Slice(&b)])));
         }
     }
+    for frame in STATES.into_iter().flat_map(published::with_state) {
+        let begun = [after(&frame, STATE_IN_FRAME, fresh.clone()), after(&frame, STATE_IN_FRAME + 1, fresh.clone())];
+        all.push(argument(&begun[0], &script(&[Call::Slice(&frame[STATE_IN_FRAME..])])));
+        all.push(argument(&begun[1], &script(&[Call::Slice(&frame[STATE_IN_FRAME + 1..])])));
+    }
+    for frame in published::with_state(0x05) {
+        all.push(argument(&after(&frame, STATE_IN_FRAME, fresh.clone()), &by_bytes(&frame[STATE_IN_FRAME..])));
+    }
     all.extend(counters_around_their_ends(&b));
     for (state, kind) in [(4, 0), (255, 0), (0, 2), (3, 255)] {
         all.push(argument(&ParserFields { state, kind, ..fresh.clone() }, &[]));
@@ -120,8 +140,8 @@ pub fn built_parsers(random: &mut Random) -> Vec<Vec<u8>> {
     all
 }
 
-/// All four counters around the largest numbers of 32 and of 64 bits: each counted up by every kind of piece, and a broken
-/// start of every length that ends at the largest number or passes it.
+/// All four counters around the largest numbers of 32 and of 64 bits: each counted up by every kind of piece, and a
+/// broken start of every length that ends at the largest number or passes it.
 fn counters_around_their_ends(b: &[u8]) -> Vec<Vec<u8>> {
     let mut all = Vec::new();
     let malformed = published::bytes(published::COMMANDS[1]);

@@ -3,7 +3,8 @@
 use super::readers::damages;
 use crate::generate::commands::{encode_argument, COMMANDS};
 use crate::generate::random::Random;
-use crate::generate::values::{ack_argument, basic_value, engineering_value, report_argument};
+use crate::generate::reports::STATES;
+use crate::generate::values::{ack_argument, basic_value, engineering_value, report_argument, values_with_state};
 use crate::model::families::{COMMAND, REPORT};
 use crate::published;
 
@@ -60,6 +61,11 @@ pub fn report_values(random: &mut Random) -> Vec<Vec<u8>> {
     all.extend([0, 1, 2, 3, 41].map(|length| whole[..length].to_vec()));
     let unreadable = engineering_value(0, 1, 0, random);
     all.extend([0, 23, 60].map(|length| report_argument(length, 1, &unreadable)));
+    for state in STATES {
+        for (value, needed) in values_with_state(state, random) {
+            all.extend([needed, needed - 1].map(|length| report_argument(length, 0xA5, &value)));
+        }
+    }
     all
 }
 

@@ -2,33 +2,19 @@
 //! over pieces, and the unfinished length.
 
 use ld2410::access::{Counters, Fields as ParserFields};
-use ld2410::Frame;
+use ld2410::{Frame, Report};
 use std::ops::Range;
 
-use super::division::{next_piece, Piece, LIMIT};
+use super::division::Piece;
 use super::families::{COMMAND, REPORT};
+use super::rules::Rules;
 use crate::case::Case;
 use crate::line::Line;
-use crate::oracle::streams::{built_parser, closing_line, in_range};
+use crate::oracle::readers::STATE_IN_FRAME;
+use crate::oracle::states::States;
+use crate::oracle::streams::{built_parser, closing_line};
 use crate::oracle::values::{self, address};
 use crate::script::{calls, Call};
-
-/// The rules of the model, each one replaceable, so that the self-check can put a wrong one in its place.
-pub struct Rules {
-    /// The piece at the front of the rest of a stretch, and its length.
-    pub next_piece: fn(&[u8]) -> (Piece, usize),
-    /// A counter after that many more.
-    pub add: fn(u64, usize) -> u64,
-    /// Whether a parser built by hand is taken as it stands.
-    pub in_range: fn(&ParserFields) -> bool,
-}
-
-/// Document 01's rules, and the counters of document 02, item 1.
-pub const RULES: Rules = Rules {
-    next_piece: |rest| next_piece(rest, LIMIT),
-    add: |counter, by| (u128::from(counter) + by as u128).min(u64::MAX.into()) as u64,
-    in_range,
-};
 
 /// Appends the answer lines of a script of ops 10, 11 and 13; none for a parser that cannot be built.
 pub fn answer(case: Case<'_>, rules: &Rules, out: &mut Vec<u8>) -> Option<()> {
@@ -88,10 +74,11 @@ impl Stream<'_> {
             }
         };
         let stretch = self.stretches.last().expect("a stretch is always there");
-        let frame = frame.map(|place| &stretch[place]);
-        let delivered = frame.and_then(|bytes| Frame::parse(bytes).ok());
+        let frame = frame.map_or(&[][..], |place| &stretch[place]);
+        let delivered = Frame::parse(frame).ok();
+        let targets = |report: &Report| States::By(self.rules.state).targets(frame[STATE_IN_FRAME], report);
         let mut line = Line::new(out, op);
-        values::call(&mut line, taken, delivered.as_ref(), frame.map_or(0, buffer_base));
+        values::call(&mut line, taken, delivered.as_ref(), targets, buffer_base(frame));
         line.end();
     }
 
@@ -146,5 +133,5 @@ impl Stream<'_> {
 
 /// Where a payload's start is counted from: the parser's buffer holds the data, which stand after header and length.
 fn buffer_base(frame: &[u8]) -> usize {
-    address(&frame[6..])
+    frame.get(6..).map_or(0, address)
 }

@@ -3,7 +3,7 @@
 use ld2410::access::{Fields as ParserFields, ORIGINAL_MAX};
 
 use super::{Mutant, CLOSING};
-use crate::model::streams::{Rules, RULES};
+use crate::model::rules::{Rules, RULES};
 use crate::oracle::streams::{built_parser, in_range};
 
 pub fn mutants() -> Vec<Mutant> {

@@ -2,7 +2,7 @@
 
 use super::{right, Mutant, CLOSING};
 use crate::model::division::{next_piece, Piece, LIMIT};
-use crate::model::streams::{Rules, RULES};
+use crate::model::rules::{Rules, RULES};
 use crate::script::{calls, script, Call};
 
 pub fn mutants() -> Vec<Mutant> {

@@ -5,7 +5,7 @@ use crate::model::families::{ACK_BIT, COMMAND, REPORT};
 
 /// Where a buffer starts in an answer, and a command, a report value or a word in an argument.
 const BUFFER: usize = 3;
-const VALUE: usize = 3;
+pub const VALUE: usize = 3;
 
 pub fn mutants() -> Vec<Mutant> {
     let mut all = encoder();
@@ -18,6 +18,12 @@ pub fn mutants() -> Vec<Mutant> {
 
 fn buffer_length(argument: &[u8]) -> usize {
     u16::from_le_bytes([argument[0], argument[1]]).into()
+}
+
+/// Makes an answer refusal 6, its buffer as it was.
+pub fn refuse_value(argument: &[u8], line: &mut [u64]) {
+    refuse(line, 6);
+    line[BUFFER..].fill(argument[2].into());
 }
 
 fn encoder() -> Vec<Mutant> {

@@ -1,27 +1,32 @@
 //! Ops 1 to 5 and 14: the readers of the original and the replies of an acknowledgement.
 
-use ld2410::{Ack, Frame, Report, TargetState};
+use ld2410::{Ack, Frame, Report};
 
+use super::states::States;
 use super::values::{self, address, refusal_of};
 use crate::case::Fields;
 use crate::line::Line;
 
-pub fn target_state(argument: &[u8], out: &mut Vec<u8>) -> Option<()> {
-    let state = TargetState::from_byte(Fields(argument).u8()?);
+/// Where the state byte stands in report data, and in a frame.
+pub const STATE_IN_DATA: usize = 2;
+pub const STATE_IN_FRAME: usize = 6 + STATE_IN_DATA;
+
+pub fn target_state(argument: &[u8], states: States, out: &mut Vec<u8>) -> Option<()> {
+    let state = states.state(Fields(argument).u8()?);
     let mut line = Line::new(out, 1);
-    line.number(state.to_byte());
-    line.number(state.moving());
-    line.number(state.stationary());
-    line.number(state.present());
+    line.number(state.number);
+    line.number(state.moving);
+    line.number(state.stationary);
+    line.number(state.present);
     line.end();
     Some(())
 }
 
-pub fn report(data: &[u8], out: &mut Vec<u8>) -> Option<()> {
+pub fn report(data: &[u8], states: States, out: &mut Vec<u8>) -> Option<()> {
     let parsed = Report::parse(data);
     let mut line = Line::new(out, 2);
     line.number(refusal_of(&parsed));
-    values::report(&mut line, parsed.as_ref().ok());
+    values::report(&mut line, parsed.as_ref().ok(), |report| states.targets(data[STATE_IN_DATA], report));
     line.end();
     Some(())
 }
@@ -35,11 +40,12 @@ pub fn ack(data: &[u8], out: &mut Vec<u8>) -> Option<()> {
     Some(())
 }
 
-pub fn frame(bytes: &[u8], out: &mut Vec<u8>) -> Option<()> {
+pub fn frame(bytes: &[u8], states: States, out: &mut Vec<u8>) -> Option<()> {
     let parsed = Frame::parse(bytes);
     let mut line = Line::new(out, 5);
     line.number(refusal_of(&parsed));
-    values::frame(&mut line, parsed.as_ref().ok(), address(bytes));
+    let targets = |report: &Report| states.targets(bytes[STATE_IN_FRAME], report);
+    values::frame(&mut line, parsed.as_ref().ok(), targets, address(bytes));
     line.end();
     Some(())
 }

@@ -3,6 +3,7 @@
 use ld2410::{Ack, Engineering, Frame, Report, Target};
 use rusty_esp_core::prelude::Error;
 
+use super::states::Targets;
 use crate::line::Line;
 
 /// Numbers of a REPORT: 36 fields, then 14 of the accessors.
@@ -29,11 +30,13 @@ pub fn refusal_of<T>(result: &Result<T, Error>) -> u8 {
     result.as_ref().err().map_or(0, |&error| refusal(error))
 }
 
-pub fn report(line: &mut Line<'_>, report: Option<&Report>) {
+/// A report, its state and what follows from it as `targets` says.
+pub fn report(line: &mut Line<'_>, report: Option<&Report>, targets: impl FnOnce(&Report) -> Targets) {
     let Some(report) = report else {
         return line.zeros(REPORT_NUMBERS);
     };
-    line.number(report.state.to_byte());
+    let Targets { state, moving, stationary, present } = targets(report);
+    line.number(state);
     line.number(report.moving_distance_cm);
     line.number(report.moving_energy);
     line.number(report.stationary_distance_cm);
@@ -41,9 +44,9 @@ pub fn report(line: &mut Line<'_>, report: Option<&Report>) {
     line.number(report.detection_distance_cm);
     line.number(report.is_engineering());
     engineering(line, report.engineering.as_ref());
-    target(line, report.moving());
-    target(line, report.stationary());
-    line.number(report.present());
+    target(line, moving);
+    target(line, stationary);
+    line.number(present);
     engineering_accessors(line, report.engineering.as_ref());
 }
 
@@ -98,21 +101,27 @@ pub fn span(line: &mut Line<'_>, payload: &[u8], base: usize) {
     line.count(payload.len());
 }
 
-pub fn frame(line: &mut Line<'_>, frame: Option<&Frame<'_>>, base: usize) {
+pub fn frame(line: &mut Line<'_>, frame: Option<&Frame<'_>>, targets: impl FnOnce(&Report) -> Targets, base: usize) {
     let (kind, its_report, its_ack) = match frame {
         None => (0u8, None, None),
         Some(Frame::Report(report)) => (1, Some(report), None),
         Some(Frame::Ack(ack)) => (2, None, Some(ack)),
     };
     line.number(kind);
-    report(line, its_report);
+    report(line, its_report, targets);
     ack(line, its_ack, base);
 }
 
 /// The line of one call on a parser: bytes taken, the frame, and its payload's bytes.
-pub fn call(line: &mut Line<'_>, taken: usize, delivered: Option<&Frame<'_>>, base: usize) {
+pub fn call(
+    line: &mut Line<'_>,
+    taken: usize,
+    delivered: Option<&Frame<'_>>,
+    targets: impl FnOnce(&Report) -> Targets,
+    base: usize,
+) {
     line.count(taken);
-    frame(line, delivered, base);
+    frame(line, delivered, targets, base);
     if let Some(Frame::Ack(ack)) = delivered {
         line.bytes(ack.payload);
     }

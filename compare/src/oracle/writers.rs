@@ -4,6 +4,9 @@ use crate::case::Fields;
 use crate::line::Line;
 use crate::model::writers::{put, AckValue, ReportValue, Written};
 
+/// States are 0 to 3 by document 01, and 4 to 6 by document 02, item 3.
+const LAST_STATE: u8 = 6;
+
 pub fn report_frame(argument: &[u8], out: &mut Vec<u8>) -> Option<()> {
     let mut fields = Fields(argument);
     let mut buffer = buffer(&mut fields)?;
@@ -45,7 +48,7 @@ fn report_value(fields: &mut Fields<'_>) -> Option<ReportValue> {
         extra: fields.array()?,
         extra_len: fields.u8()?,
     };
-    (value.state <= 3).then_some(value)
+    (value.state <= LAST_STATE).then_some(value)
 }
 
 fn write_answer(op: u8, written: &Written, buffer: &[u8], out: &mut Vec<u8>) {

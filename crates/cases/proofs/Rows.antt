@@ -9,8 +9,11 @@ use lib.ListN.{length}
 use Rattle.wire.specs.Counter.{bumped}
 use Rattle.wire.specs.Equal.{sameBytes}
 use Rattle.wire.specs.Family.{headerOf, framed}
+use Rattle.wire.specs.Prefix.{over, pasted, prefixed, padded}
 use Rattle.wire.proofs.Bytes.{every-append}
 use Rattle.target_state.specs.State.{stateOf}
+use Rattle.engineering.specs.Gates.{gatesFit}
+use Rattle.engineering.specs.Block.{engineeringOf}
 use Rattle.report.specs.Report.{reportOf}
 use Rattle.ack.specs.Ack.{ackOf}
 use Rattle.frame.specs.Frame.{decoded, checkedFrame}
@@ -83,8 +86,9 @@ abbrev told : Run → Ran
 told r = record { history = r .history; numbers = r .numbers }
 
 runs-computed : map ran runs ≡ map told runs
-unfolding decoded reportOf ackOf wellFormed orReset abandoned startOf stepOf stored bufOf movedOf feedOf runOf
-    sameBytes stateOf sliceBufOf sliceMovedOf feedSliceOf unfinishedOf unfinishedBy bumped
+unfolding decoded reportOf gatesFit engineeringOf padded prefixed pasted over ackOf wellFormed orReset abandoned startOf
+    stepOf stored bufOf movedOf feedOf runOf sameBytes stateOf sliceBufOf sliceMovedOf feedSliceOf unfinishedOf
+    unfinishedBy bumped
 runs-computed = refl
 
 run-holds : (r : Run) → ran r ≡ told r → RunHolds r

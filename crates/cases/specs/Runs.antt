@@ -1,8 +1,12 @@
 -- Runs in which something happens, so that no claim about the parser holds of nothing: a report and an acknowledgement
--- are delivered, a malformed frame is not, a reset forgets, counters pass 32 bits, and stop. Only the reset is a row of
--- the document.
+-- are delivered, a malformed frame is not, a reset forgets, a module calibrates, counters pass 32 bits, and stop. Only
+-- the reset is a row of the document.
 --   acknowledged   the published acknowledgement of `EnableConfig`
---   bReport        what B is read as: "both targets, 120 cm at 60, 150 cm at 45, detection 200 cm"
+--   bIn x          B with the state byte x
+--   reportIn t     what B is read as, in the state t: "120 cm at 60, 150 cm at 45, detection 200 cm"
+--   bReport        what B is read as: "both targets"
+--   engineeringIn x        the published engineering report with the state byte x
+--   engineeringReportIn t  what it is read as, in the state t
 --   enabled        what the acknowledgement is read as, its payload at byte 4 of the buffer
 --   largest        "the largest 64-bit value", as the document's number and not by the definitions' name
 --   counting n     a parser whose four counters hold n
@@ -11,10 +15,12 @@
 use mathlib.Core.List.{List, [], _∷_, _++_}
 use mathlib.Core.Bool.{true, false}
 use Prim.Native.Nat.{ℕ}
-use lib.ListN.{replicate}
+use lib.ListN.{replicate, take, drop}
 use Rattle.engineering.specs.Block.{noEngineering}
 use Rattle.report.specs.Report.{noReport}
-use Rattle.target_state.specs.declared.TargetState.the-variants.{Both}
+use Rattle.target_state.specs.declared.TargetState.{TargetState}
+use Rattle.target_state.specs.declared.TargetState.the-variants.{Both, CalibrationRunning, CalibrationDone}
+use Rattle.target_state.specs.declared.TargetState.the-variants.{CalibrationFailed}
 use Rattle.frame.specs.Frame.{noAck}
 use Rattle.frame.specs.declared.FrameKind.the-variants as Is
 use Rattle.frame.specs.declared.Frame.{Frame}
@@ -30,11 +36,14 @@ abbrev pub acknowledged : List ℕ
 acknowledged = 0xFD ∷ 0xFC ∷ 0xFB ∷ 0xFA ∷ 0x08 ∷ 0x00 ∷ 0xFF ∷ 0x01 ∷ 0x00 ∷ 0x00 ∷ 0x01 ∷ 0x00 ∷ 0x40 ∷ 0x00 ∷ 0x04
     ∷ 0x03 ∷ 0x02 ∷ 0x01 ∷ []
 
-abbrev pub bReport : Frame
-bReport = record {
+abbrev pub bIn : ℕ → List ℕ
+bIn x = take 8 b ++ (x ∷ drop 9 b)
+
+abbrev pub reportIn : TargetState → Frame
+reportIn t = record {
   kind = Is.Report;
   report = record {
-    state = Both;
+    state = t;
     «moving_distance_cm» = 120;
     «moving_energy» = 60;
     «stationary_distance_cm» = 150;
@@ -42,6 +51,37 @@ bReport = record {
     «detection_distance_cm» = 200;
     «has_engineering» = false;
     engineering = noEngineering;
+  };
+  ack = noAck;
+}
+
+abbrev pub bReport : Frame
+bReport = reportIn Both
+
+abbrev pub engineeringIn : ℕ → List ℕ
+engineeringIn x = 0xF4 ∷ 0xF3 ∷ 0xF2 ∷ 0xF1 ∷ 0x23 ∷ 0x00 ∷ 0x01 ∷ 0xAA ∷ x ∷ 0x1E ∷ 0x00 ∷ 0x3C ∷ 0x00 ∷ 0x00 ∷ 0x39
+    ∷ 0x00 ∷ 0x00 ∷ 0x08 ∷ 0x08 ∷ 0x3C ∷ 0x22 ∷ 0x05 ∷ 0x03 ∷ 0x03 ∷ 0x04 ∷ 0x03 ∷ 0x06 ∷ 0x05 ∷ 0x00 ∷ 0x00 ∷ 0x39
+    ∷ 0x10 ∷ 0x13 ∷ 0x06 ∷ 0x06 ∷ 0x08 ∷ 0x04 ∷ 0x03 ∷ 0x05 ∷ 0x55 ∷ 0x00 ∷ 0xF8 ∷ 0xF7 ∷ 0xF6 ∷ 0xF5 ∷ []
+
+abbrev pub engineeringReportIn : TargetState → Frame
+engineeringReportIn t = record {
+  kind = Is.Report;
+  report = record {
+    state = t;
+    «moving_distance_cm» = 30;
+    «moving_energy» = 60;
+    «stationary_distance_cm» = 0;
+    «stationary_energy» = 57;
+    «detection_distance_cm» = 0;
+    «has_engineering» = true;
+    engineering = record {
+      «moving_gates» = 9;
+      «stationary_gates» = 9;
+      «moving_energy» = 0x3C ∷ 0x22 ∷ 0x05 ∷ 0x03 ∷ 0x03 ∷ 0x04 ∷ 0x03 ∷ 0x06 ∷ 0x05 ∷ [];
+      «stationary_energy» = 0x00 ∷ 0x00 ∷ 0x39 ∷ 0x10 ∷ 0x13 ∷ 0x06 ∷ 0x06 ∷ 0x08 ∷ 0x04 ∷ [];
+      extra = 0x03 ∷ 0x05 ∷ replicate 6 0;
+      «extra_len» = 2;
+    };
   };
   ack = noAck;
 }
@@ -86,6 +126,15 @@ runs =
     -- "F4 F3, then reset: all counters 0"
     ∷ row fresh (feed 0xF4 ∷ feed 0xF3 ∷ reset ∷ [])
     (fed 0xF4 nothing ∷ fed 0xF3 nothing ∷ cleared ∷ []) (numbers 0 0 0 0 0)
+    -- document 02, item 3: "state 04 to background calibration running, 05 to done, 06 to failed", "bytes 07 and above
+    -- keep the old rule"
+    ∷ row fresh (slice (bIn 0x04) ∷ slice (bIn 0x05) ∷ slice (bIn 0x06) ∷ slice (bIn 0x07) ∷ [])
+    (sliced (bIn 0x04) 23 (reportIn CalibrationRunning, []) ∷ sliced (bIn 0x05) 23 (reportIn CalibrationDone, [])
+    ∷ sliced (bIn 0x06) 23 (reportIn CalibrationFailed, []) ∷ sliced (bIn 0x07) 23 (reportIn Both, []) ∷ [])
+    (numbers 4 0 0 0 0)
+    -- the engineering block of such a report is read as of any other
+    ∷ row fresh (slice (engineeringIn 0x05) ∷ [])
+    (sliced (engineeringIn 0x05) 45 (engineeringReportIn CalibrationDone, []) ∷ []) (numbers 1 0 0 0 0)
     -- a stray byte, a broken start and the stray byte that broke it, a frame that decodes and one that does not: each
     -- counter goes on from 2 to the 32nd, and stays where it is full
     ∷ row (counting 4294967296) each eachDone (numbers 4294967297 4294967297 4294967299 4294967297 0)

@@ -35,11 +35,11 @@ const STATIONARY_AT: usize = MOVING_AT + 9;
 
 const EXTRA_AT: usize = STATIONARY_AT + 9;
 
-// Whether the argument of an op has a value to write, if the op is a writer's: any acknowledgement is one, and op 6
-// asks its command.
+// Whether the argument of an op has a value to write, if the op is a writer's: any acknowledgement is one, a report up
+// to state 6, and op 6 asks its command.
 pub fn has_value(op: u8, argument: &[u8]) -> bool {
     match op {
-        7 => u8_at(argument, VALUE_AT) <= 3,
+        7 => u8_at(argument, VALUE_AT) <= 6,
         _ => true,
     }
 }

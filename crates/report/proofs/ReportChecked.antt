@@ -12,6 +12,7 @@ use Rattle.refusal.specs.declared.Check.{Check}
 use Rattle.refusal.specs.declared.Check.the-variants.{R6, R7}
 use Rattle.refusal.specs.declared.MaybeCheck.{MaybeCheck}
 use Rattle.refusal.specs.declared.MaybeCheck.the-variants.{Some, None}
+use Rattle.target_state.proofs.States.{calibration}
 use Rattle.engineering.specs.Block.{checkedBlock, noEngineering}
 use Rattle.engineering.specs.declared.Engineering.{Engineering}
 use Rattle.engineering.specs.declared.CheckedEngineering.{CheckedEngineering}
@@ -22,9 +23,11 @@ use Rattle.report.specs.declared.layout.Layout.{Layout}
 use Rattle.report.specs.declared.layout.CheckedLayout.{CheckedLayout}
 use Rattle.report.specs.declared.layout.CheckedLayout.the-variants.{Ok, Failed}
 use Rattle.report.proofs.Layouts.{block-part, first-failed, first-later, layout-is, data-long}
+use Rattle.report.specs.Layout.{stateIn}
 use Rattle.report.specs.Report.{reportWith, reportOf, noReport}
 use Rattle.report.specs.Check.{passing, failing}
 use Rattle.report.specs.Check.{checkedAs, checkedReport, completedReport, parsedReport, returnedReport}
+use Rattle.report.specs.Claims.{Calibrated}
 use Rattle.report.specs.declared.Report.{Report}
 use Rattle.report.specs.declared.CheckedReport.{CheckedReport}
 use Rattle.report.specs.declared.ReportResult.{ReportResult}
@@ -44,13 +47,22 @@ as-returned : (o : MaybeCheck) (v : Report)
 as-returned (Some c) v = refl
 as-returned None v = refl
 
--- Both clauses of the contract of `parse`.
+-- Where the state is that of a calibration, no target is told.
+as-calibrated : (o : MaybeCheck) (s : List ℕ) → Calibrated s (checkedAs o (reportOf s) .report)
+unfolding reportOf
+as-calibrated (Some c) s h = (refl, (refl, refl))
+as-calibrated None s h =
+    let off = calibration (stateIn s) .untargeted h in
+    rw (off .0, off .1) (refl, (refl, refl))
+
+-- The clauses of the contract of `parse`.
 pub parsed-whole : (s : List ℕ) {r : ReportResult} → r ≡ parsedReport s
-    → (r ≡ parsedReport s) × Causes noReport reportChecks s (returnedReport r)
+    → (r ≡ parsedReport s) × (Causes noReport reportChecks s (returnedReport r) × Calibrated s (r .report))
 unfolding parsedReport checkedReport
 parsed-whole s e =
-    let told = as-returned (firstFailed reportChecks s) (reportOf s) in
-    (e, rw (e, told) (causes reportChecks s noReport (reportOf s)))
+    let o = firstFailed reportChecks s in
+    let told = as-returned o (reportOf s) in
+    (e, (rw (e, told) (causes reportChecks s noReport (reportOf s)), rw e (as-calibrated o s)))
 
 -- By what the layout is read as.
 module _ (s : List ℕ) where

@@ -2,6 +2,7 @@
 --   dataType s        the type of the data s
 --   body s            what stands in s between AA and the last two bytes
 --   block s           what stands there after the nine basic bytes
+--   stateIn s         the state byte, the first of the nine
 --   isEngineering t   the type t is that of an engineering report
 --   layoutOf s        the type and the basic bytes of the data s
 use mathlib.Core.List.{List}
@@ -20,6 +21,9 @@ body s = take (length s - 4) (drop 2 s)
 
 abbrev pub block : List ℕ → List ℕ
 block s = drop 9 (body s)
+
+abbrev pub stateIn : List ℕ → ℕ
+stateIn s = basicOf (body s) .state
 
 abbrev pub isEngineering : ℕ → Bool
 isEngineering t = eqb t 0x01

@@ -3,3 +3,4 @@ pub mod Check
 pub mod Basic
 pub mod Layout
 pub mod LayoutCheck
+pub mod Claims

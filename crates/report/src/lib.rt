@@ -23,6 +23,7 @@ ghost use Rattle.report.specs.Report.{reportWith, noReport};
 ghost use Rattle.report.specs.LayoutCheck.{reportChecks};
 ghost use Rattle.report.specs.Check.{passing, failing, checkedReport, completedReport, parsedReport};
 ghost use Rattle.report.specs.Check.{returnedReport};
+ghost use Rattle.report.specs.Claims.{Calibrated};
 
 // Where the bytes after the basic ones start in the data of a report frame.
 const BLOCK_AT: usize = 11;
@@ -146,6 +147,7 @@ impl Report {
     pub fn parse(data: &[u8]) -> ReportResult
         ensures parsed { λ r. ⌜ r ≡ parsedReport (now («data» .entry)) ⌝ }
         ensures causes { λ r. ⌜ Causes noReport reportChecks (now («data» .entry)) (returnedReport r) ⌝ }
+        ensures calibration { λ r. ⌜ Calibrated (now («data» .entry)) (r .report) ⌝ }
     {
         let checked = checked_report(data);
         let failed = checked.failed;

@@ -1,5 +1,5 @@
--- Reports, written and read: refused is "a value that the reader can't give", and "reading and writing again gives
--- equal bytes for .. every report with state byte 0 to 3 and at most eight reserved bytes".
+-- Reports, written and read: refused is "a value that the reader can't give", and, document 02, item 3: "writing again
+-- gives equal bytes for states 0 to 6 with at most eight reserved bytes".
 --   holding r      the frame that holds the report r
 --   ReadAs f r     `Frame::parse` gives the report r for the string f
 --   reservedIn f   the reserved bytes in the frame f, none without an engineering block
@@ -13,8 +13,7 @@ use Rattle.refusal.specs.declared.Outcome.the-variants as Outcome
 use Rattle.writer.specs.RoundTrip.{Codec}
 use Rattle.target_state.specs.State.{stateMax}
 use Rattle.engineering.specs.Block.{reserved}
-use Rattle.report.specs.Basic.{basicOf}
-use Rattle.report.specs.Layout.{body, block}
+use Rattle.report.specs.Layout.{stateIn, block}
 use Rattle.report.specs.declared.Report.{Report}
 use Rattle.frame.specs.Envelope.{dataOf}
 use Rattle.frame.specs.Frame.{noAck, parsedFrame}
@@ -33,7 +32,7 @@ abbrev pub reservedIn : List ℕ → List ℕ
 reservedIn f = reserved (block (dataOf f))
 
 abbrev pub stateByte : List ℕ → ℕ
-stateByte f = basicOf (body (dataOf f)) .state
+stateByte f = stateIn (dataOf f)
 
 abbrev pub reports : Codec Report
 reports = record {
@@ -43,6 +42,6 @@ reports = record {
   Reads = ReadAs;
   -- "at most eight reserved bytes"
   Within = λ f. length (reservedIn f) ≤ 8;
-  -- "state byte 0 to 3"
+  -- "for states 0 to 6"
   Kept = λ f. stateByte f ≤ stateMax;
 }

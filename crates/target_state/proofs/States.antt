@@ -1,21 +1,31 @@
 -- A target state and its byte.
-use mathlib.Core.Path.{_≡_, refl}
+use mathlib.Core.Path.{_≡_, refl, sym, _∙_}
+use mathlib.Core.Bool.{false}
 use Prim.Native.Nat.{ℕ, zero, suc, _%_, _≤_}
 use native.Mathlib.Omega.{arith}
-use Rattle.target_state.specs.State.{byBits, stateOf, byteOf, stateMax}
+use borrow.Author.Tests.{ne-eqb}
+use Rattle.target_state.specs.State.{byBits, stateOf, byteOf, stateMax, movingOf, stationaryOf}
+use Rattle.target_state.specs.Claims.{Calibrating, Calibration}
 use Rattle.target_state.specs.declared.TargetState.{TargetState}
 use Rattle.target_state.specs.declared.TargetState.the-variants.{None, Moving, Stationary, Both}
+use Rattle.target_state.specs.declared.TargetState.the-variants.{CalibrationRunning, CalibrationDone}
+use Rattle.target_state.specs.declared.TargetState.the-variants.{CalibrationFailed}
 
+-- What is no 0, 1 or 2 in the two lowest bits is both.
 bits-both : (n : ℕ) → 3 ≤ n → byBits n ≡ Both
 bits-both zero h = absurd (omega arith)
 bits-both (suc zero) h = absurd (omega arith)
 bits-both (suc (suc zero)) h = absurd (omega arith)
 bits-both (suc (suc (suc n))) h = refl
 
--- What is no 0, 1 or 2 in the two lowest bits is both.
-pub state-both : (b : ℕ) → 3 ≤ b % 4 → stateOf b ≡ Both
+-- Of every byte but the three of a calibration the two lowest bits count.
+state-bits : (b : ℕ) → (Calibrating b → ⊥) → stateOf b ≡ byBits (b % 4)
 unfolding stateOf
-state-both b h = bits-both (b % 4) h
+state-bits b h =
+    let not-4 = ne-eqb b 4 (λ e. h (omega arith, omega arith)) in
+    let not-5 = ne-eqb b 5 (λ e. h (omega arith, omega arith)) in
+    let not-6 = ne-eqb b 6 (λ e. h (omega arith, omega arith)) in
+    rw (not-4, not-5, not-6)
 
 -- Every state is read from its byte.
 pub state-byte : (t : TargetState) → stateOf (byteOf t) ≡ t
@@ -24,6 +34,9 @@ state-byte None = refl
 state-byte Moving = refl
 state-byte Stationary = refl
 state-byte Both = refl
+state-byte CalibrationRunning = refl
+state-byte CalibrationDone = refl
+state-byte CalibrationFailed = refl
 
 -- The byte of a state is at most the largest, and a byte up to it is the byte of its state.
 pub byte-most : (t : TargetState) → byteOf t ≤ stateMax
@@ -31,6 +44,9 @@ byte-most None = omega arith
 byte-most Moving = omega arith
 byte-most Stationary = omega arith
 byte-most Both = omega arith
+byte-most CalibrationRunning = omega arith
+byte-most CalibrationDone = omega arith
+byte-most CalibrationFailed = omega arith
 
 pub byte-kept : (b : ℕ) → b ≤ stateMax → byteOf (stateOf b) ≡ b
 unfolding stateOf
@@ -38,11 +54,42 @@ byte-kept zero h = refl
 byte-kept (suc zero) h = refl
 byte-kept (suc (suc zero)) h = refl
 byte-kept (suc (suc (suc zero))) h = refl
-byte-kept (suc (suc (suc (suc b)))) h = absurd (omega arith)
+byte-kept (suc (suc (suc (suc zero)))) h = refl
+byte-kept (suc (suc (suc (suc (suc zero))))) h = refl
+byte-kept (suc (suc (suc (suc (suc (suc zero)))))) h = refl
+byte-kept (suc (suc (suc (suc (suc (suc (suc b))))))) h = absurd (omega arith)
+
+-- A state whose byte is one of the three of a calibration has no target.
+no-target : (t : TargetState) → 4 ≤ byteOf t → (movingOf t ≡ false) × (stationaryOf t ≡ false)
+no-target None h = absurd (omega arith)
+no-target Moving h = absurd (omega arith)
+no-target Stationary h = absurd (omega arith)
+no-target Both h = absurd (omega arith)
+no-target CalibrationRunning h = (refl, refl)
+no-target CalibrationDone h = (refl, refl)
+no-target CalibrationFailed h = (refl, refl)
+
+pub calibration : (b : ℕ) → Calibration b (stateOf b)
+calibration b = record {
+  untargeted = λ h. no-target (stateOf b) (omega (arith, byte-kept b (h .1)));
+  old = state-bits b;
+}
 
 -- What the two conversions have to show.
-pub sent-as : {t : TargetState} {b : ℕ} → b ≡ byteOf t → (b ≡ byteOf t) × ((b ≤ stateMax) × (stateOf b ≡ t))
-sent-as {t} e = (e, rw e (byte-most t, state-byte t))
+abbrev Decoded : ℕ → TargetState → Type 0
+Decoded b t = (t ≡ stateOf b) × ((b ≤ stateMax → byteOf t ≡ b) × Calibration b t)
 
-pub read-as : (b : ℕ) {t : TargetState} → t ≡ stateOf b → (t ≡ stateOf b) × (b ≤ stateMax → byteOf t ≡ b)
-read-as b e = (e, λ h. rw e (byte-kept b h))
+abbrev Encoded : TargetState → ℕ → Type 0
+Encoded t b = (b ≡ byteOf t) × ((b ≤ stateMax) × (stateOf b ≡ t))
+
+pub read-as : (b : ℕ) {t : TargetState} → t ≡ stateOf b → Decoded b t
+read-as b e = (e, rw e (λ h. byte-kept b h, calibration b))
+
+pub read-bits : (b : ℕ) {t : TargetState} → (Calibrating b → ⊥) → t ≡ byBits (b % 4) → Decoded b t
+read-bits b h e = read-as b (e ∙ sym (state-bits b h))
+
+pub read-both : (b : ℕ) → (Calibrating b → ⊥) → 3 ≤ b % 4 → Decoded b Both
+read-both b h m = read-bits b h (sym (bits-both (b % 4) m))
+
+pub sent-as : {t : TargetState} {b : ℕ} → b ≡ byteOf t → Encoded t b
+sent-as {t} e = (e, rw e (byte-most t, state-byte t))

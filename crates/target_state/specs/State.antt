@@ -1,13 +1,17 @@
--- The target state: "State uses its two lowest bits only".
+-- The target state: "State uses its two lowest bits only"; and document 02, item 3: "state 04 to background calibration
+-- running, 05 to done, 06 to failed", "bytes 07 and above keep the old rule".
 --   byBits n       the state of two bits: 0 none, 1 moving, 2 stationary, 3 both
 --   stateOf b      the state that the byte b stands for
 --   byteOf t       the byte that the module sends for the state t
 --   stateMax       the largest of these bytes
 --   movingOf t, stationaryOf t, presentOf t   which targets the state t says are there: moving, stationary, either
-use mathlib.Core.Bool.{Bool, true, false, _||_}
+use mathlib.Core.Bool.{Bool, true, false, cond, _||_}
 use Prim.Native.Nat.{ℕ, zero, suc, _%_}
+use lib.Dec.{eqb}
 use Rattle.target_state.specs.declared.TargetState.{TargetState}
 use Rattle.target_state.specs.declared.TargetState.the-variants.{None, Moving, Stationary, Both}
+use Rattle.target_state.specs.declared.TargetState.the-variants.{CalibrationRunning, CalibrationDone}
+use Rattle.target_state.specs.declared.TargetState.the-variants.{CalibrationFailed}
 
 abbrev pub byBits : ℕ → TargetState
 byBits zero = None
@@ -16,29 +20,41 @@ byBits (suc (suc zero)) = Stationary
 byBits (suc (suc (suc n))) = Both
 
 unfoldable pub stateOf : ℕ → TargetState
-stateOf b = byBits (b % 4)
+stateOf b =
+    cond (eqb b 0x04) CalibrationRunning
+    (cond (eqb b 0x05) CalibrationDone
+    (cond (eqb b 0x06) CalibrationFailed (byBits (b % 4))))
 
 abbrev pub byteOf : TargetState → ℕ
 byteOf None = 0
 byteOf Moving = 1
 byteOf Stationary = 2
 byteOf Both = 3
+byteOf CalibrationRunning = 4
+byteOf CalibrationDone = 5
+byteOf CalibrationFailed = 6
 
--- "state byte 0 to 3": a byte that is sent for a state, and no other
+-- "equal bytes for states 0 to 6": a byte that is sent for a state, and no other
 abbrev pub stateMax : ℕ
-stateMax = 3
+stateMax = 6
 
 abbrev pub movingOf : TargetState → Bool
 movingOf None = false
 movingOf Moving = true
 movingOf Stationary = false
 movingOf Both = true
+movingOf CalibrationRunning = false
+movingOf CalibrationDone = false
+movingOf CalibrationFailed = false
 
 abbrev pub stationaryOf : TargetState → Bool
 stationaryOf None = false
 stationaryOf Moving = false
 stationaryOf Stationary = true
 stationaryOf Both = true
+stationaryOf CalibrationRunning = false
+stationaryOf CalibrationDone = false
+stationaryOf CalibrationFailed = false
 
 abbrev pub presentOf : TargetState → Bool
 presentOf t = movingOf t || stationaryOf t

@@ -1,9 +1,11 @@
-// The target state of a report: which targets the module sees, and the byte that says so.
+// The target state of a report: which targets the module sees, or where its background calibration stands, and the byte
+// that says so.
 ghost use mathlib.Core.Path.{_≡_};
 ghost use Prim.Native.Nat.{_≤_};
 ghost use Rattle.target_state.specs.State.{stateOf, byteOf, stateMax, movingOf, stationaryOf, presentOf};
+ghost use Rattle.target_state.specs.Claims.{Calibration};
 
-// What the module currently sees: the state byte of a report.
+// What the module currently sees, or where its background calibration stands: the state byte of a report.
 pub enum TargetState {
     // No target.
     None,
@@ -13,20 +15,32 @@ pub enum TargetState {
     Stationary,
     // A moving and a stationary target.
     Both,
+    // Background calibration running.
+    CalibrationRunning,
+    // Background calibration done.
+    CalibrationDone,
+    // Background calibration failed.
+    CalibrationFailed,
 }
 
 impl TargetState {
-    // Decodes the state byte, of which the two lowest bits count. A byte that is sent for a state is what `to_byte`
-    // gives for it.
+    // Decodes the state byte: 4, 5 and 6 are states of their own, of any other the two lowest bits count. A byte that
+    // is sent for a state is what `to_byte` gives for it.
     pub fn from_byte(byte: u8) -> Self
         ensures decoded { λ r. ⌜ r ≡ stateOf byte ⌝ }
         ensures kept { λ r. ⌜ (byte ≤ stateMax → byteOf r ≡ byte) ⌝ }
+        ensures calibration { λ r. ⌜ Calibration byte r ⌝ }
     {
-        match byte % 4 {
-            0 => TargetState::None,
-            1 => TargetState::Moving,
-            2 => TargetState::Stationary,
-            _ => TargetState::Both,
+        match byte {
+            4 => TargetState::CalibrationRunning,
+            5 => TargetState::CalibrationDone,
+            6 => TargetState::CalibrationFailed,
+            _ => match byte % 4 {
+                0 => TargetState::None,
+                1 => TargetState::Moving,
+                2 => TargetState::Stationary,
+                _ => TargetState::Both,
+            },
         }
     }
 
@@ -40,6 +54,9 @@ impl TargetState {
             TargetState::Moving => 1,
             TargetState::Stationary => 2,
             TargetState::Both => 3,
+            TargetState::CalibrationRunning => 4,
+            TargetState::CalibrationDone => 5,
+            TargetState::CalibrationFailed => 6,
         }
     }
 
@@ -52,6 +69,9 @@ impl TargetState {
             TargetState::Moving => true,
             TargetState::Stationary => false,
             TargetState::Both => true,
+            TargetState::CalibrationRunning => false,
+            TargetState::CalibrationDone => false,
+            TargetState::CalibrationFailed => false,
         }
     }
 
@@ -64,6 +84,9 @@ impl TargetState {
             TargetState::Moving => false,
             TargetState::Stationary => true,
             TargetState::Both => true,
+            TargetState::CalibrationRunning => false,
+            TargetState::CalibrationDone => false,
+            TargetState::CalibrationFailed => false,
         }
     }
 

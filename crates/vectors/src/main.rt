@@ -1,6 +1,6 @@
-// Holds the readers and the encoder against the documents: it reads the bytes that document 01 and the maker's
-// documents print, writes the commands that they print, and puts out a line for each. The file stdout beside src/ has
-// what the documents say of them, written by hand.
+// Holds the readers and the writers against the documents: it reads the bytes that document 01 and the maker's
+// documents print, writes the commands that they print, reads and writes again the states of document 02's item 3, and
+// puts out a line for each. The file stdout beside src/ has what the documents say of them, written by hand.
 use ld2410::Baud;
 use ld2410::Command;
 use ld2410::Gate;
@@ -11,6 +11,7 @@ mod frames;
 mod published;
 mod reports;
 mod sent;
+mod states;
 mod text;
 mod tried;
 
@@ -115,6 +116,17 @@ fn sent_module() {
     sent::sent(b"ReadMac", Command::ReadMac);
 }
 
+// A module under calibration, and state bytes to either side: document 02's item 3.
+fn calibration() {
+    states::basic(b"B, state 03", 3);
+    states::basic(b"B, state 04", 4);
+    states::basic(b"B, state 05", 5);
+    states::basic(b"B, state 06", 6);
+    states::basic(b"B, state 07", 7);
+    states::basic(b"B, state 0D", 0x0D);
+    states::engineering(b"engineering report, state 05", 5);
+}
+
 fn main() {
     tried_rows();
     published_reports();
@@ -122,4 +134,5 @@ fn main() {
     published_module();
     sent_settings();
     sent_module();
+    calibration();
 }

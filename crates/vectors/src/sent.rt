@@ -10,10 +10,16 @@ use ld2410::WriteResult;
 pub fn sent(label: &[u8], command: Command) {
     text(label);
     let mut out: [u8; 30] = [0xEE; 30];
-    match command.encode(&mut out) {
+    let answer = command.encode(&mut out);
+    written(answer, &out);
+}
+
+// The end of a row: a writer's answer, and the buffer that it left.
+pub fn written(answer: WriteResult, out: &[u8]) {
+    match answer {
         WriteResult::Ok(n) => number(b", sent %:", n as u64),
         WriteResult::Err(e) => number(b", refused %:", e.number() as u64),
     }
-    bytes(&out);
+    bytes(out);
     text(b"\n");
 }

@@ -16,6 +16,15 @@ returns-3 c = sent-as (search needs)
 returns-4 : tie.Need-returns-4
 returns-4 c = sent-as (search needs)
 
+returns-5 : tie.Need-returns-5
+returns-5 c = sent-as (search needs)
+
+returns-6 : tie.Need-returns-6
+returns-6 c = sent-as (search needs)
+
+returns-7 : tie.Need-returns-7
+returns-7 c = sent-as (search needs)
+
 pub to-byte-spec : {M : Type 1} → statement M
 to-byte-spec =
     tie.close
@@ -24,7 +33,13 @@ to-byte-spec =
     (λ c. search needs)
     (λ c. search needs)
     (λ c. search needs)
+    (λ c. search needs)
+    (λ c. search needs)
+    (λ c. search needs)
     returns
     returns-2
     returns-3
-    returns-4)
+    returns-4
+    returns-5
+    returns-6
+    returns-7)

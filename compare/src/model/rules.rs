@@ -1,0 +1,26 @@
+//! The rules of the models, each one replaceable, so that the self-check can put a wrong one in its place.
+
+use ld2410::access::Fields as ParserFields;
+
+use super::division::{next_piece, Piece, LIMIT};
+use super::state::{self, State};
+use crate::oracle::streams::in_range;
+
+pub struct Rules {
+    /// What a state byte says.
+    pub state: fn(u8) -> State,
+    /// The piece at the front of the rest of a stretch, and its length.
+    pub next_piece: fn(&[u8]) -> (Piece, usize),
+    /// A counter after that many more.
+    pub add: fn(u64, usize) -> u64,
+    /// Whether a parser built by hand is taken as it stands.
+    pub in_range: fn(&ParserFields) -> bool,
+}
+
+/// Document 01's rules, with the counters of document 02, item 1, and the states of its item 3.
+pub const RULES: Rules = Rules {
+    state: state::from_byte,
+    next_piece: |rest| next_piece(rest, LIMIT),
+    add: |counter, by| (u128::from(counter) + by as u128).min(u64::MAX.into()) as u64,
+    in_range,
+};

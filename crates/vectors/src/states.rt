@@ -1,0 +1,61 @@
+// Rows about the state byte, document 02's item 3. A row is a line with the state that a report is read in, the targets
+// that it tells, and the frame that it is written as, in a buffer each of whose bytes was EE before.
+use crate::frames;
+use crate::published;
+use crate::sent::written;
+use crate::text::Row;
+use crate::text::form;
+use crate::tried;
+use ld2410::MaybeTarget;
+use ld2410::Report;
+use ld2410::write_report;
+
+// Where the state byte stands in a report frame.
+const STATE_AT: usize = 8;
+
+// Case B with another state byte.
+pub fn basic(label: &[u8], state: u8) {
+    let mut bytes = tried::B;
+    bytes[STATE_AT] = state;
+    again(label, &bytes);
+}
+
+// The published engineering report with another.
+pub fn engineering(label: &[u8], state: u8) {
+    let mut bytes = published::ENGINEERING;
+    bytes[STATE_AT] = state;
+    again(label, &bytes);
+}
+
+fn again(label: &[u8], bytes: &[u8]) {
+    let frame = frames::read(label, bytes);
+    let report = frame.report;
+    form(
+        b", state %, moving %, stationary %, present %",
+        told(report),
+    );
+    let mut out: [u8; 46] = [0xEE; 46];
+    let answer = write_report(&mut out, report);
+    written(answer, &out);
+}
+
+// The state, whether each target is there, and whether any is.
+fn told(report: Report) -> Row {
+    let state = report.state;
+    [
+        state.to_byte() as u64,
+        there(report.moving()),
+        there(report.stationary()),
+        report.present() as u64,
+        0,
+        0,
+        0,
+    ]
+}
+
+fn there(target: MaybeTarget) -> u64 {
+    match target {
+        MaybeTarget::Some(_) => 1,
+        MaybeTarget::None => 0,
+    }
+}
