@@ -89,7 +89,7 @@ fn main() {
     let args: Vec<String> = std::env::args().skip(1).collect();
     if args.is_empty() {
         least(&load::load("kinds", 2), 1);
-        for name in ["mix", "f4"] {
+        for name in ["mix", "f4", "eng"] {
             for times in [1, 256] {
                 time(name, times);
             }

@@ -22,6 +22,11 @@ pub over-more : (d : List ℕ) (i : ℕ) (s : List ℕ) (n : ℕ) → i + n < le
 unfolding over
 over-more d i s n h k = rw (add-one n) (paste-suc d i s n 0 h k)
 
+-- One more at the front.
+pub front-more : (d s : List ℕ) (n : ℕ) → n < length d → n < length s
+    → set (over d 0 s n) n (getD s n 0) ≡ over d 0 s (n + 1)
+front-more d s n h k = simp zero-add at (over-more d 0 s n (omega arith) k)
+
 -- As many as fit are copied; where there is no place, none.
 pub pasted-over : (d : List ℕ) (i : ℕ) (s : List ℕ) (n : ℕ) → n ≡ min (length d - i) (length s)
     → over d i s n ≡ pasted d i s

@@ -69,11 +69,17 @@ pub fn gate_values(bytes: [u8; GATES], count: usize) -> GateValues
     }
 }
 
-// The first bytes of `src` in an array with a place for each gate, 0 where `src` has none.
+// The first bytes of `src` in an array with a place for each gate, 0 where `src` has none. It moves nine bytes at most,
+// so a byte counts them.
 pub fn gate_array(src: &[u8]) -> [u8; GATES]
     ensures copied { λ r. ⌜ r ≡ padded 9 (now (src .entry)) ⌝ }
 {
     let mut bytes: [u8; GATES] = [0; GATES];
-    copy_prefix(&mut bytes, src);
+    let count = min(GATES, src.len()) as u8;
+    let mut gate: u8 = 0;
+    while gate < count {
+        bytes[gate as usize] = src[gate as usize];
+        gate += 1;
+    }
     bytes
 }
