@@ -13,6 +13,7 @@ mod options;
 mod oracle;
 mod programs;
 mod published;
+mod recovery;
 mod script;
 mod self_check;
 mod station;
@@ -51,6 +52,7 @@ fn run(options: &Options) -> io::Result<bool> {
             Ok(self_check::run(&options.ops, options.seed, scale))
         }
         Mode::WriteList(directory) => list::write(directory, &options.ops),
+        Mode::Recovery(directory) => recovery::run(directory),
         Mode::Answer => answer_standard_input(),
         Mode::Help => {
             println!("{}", options::USAGE);

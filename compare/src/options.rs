@@ -10,6 +10,8 @@ usage: compare/run [--original FILE] [options]
   --self-check            hold wrong variants against the right answers: each must be noticed
   --write-list DIR        write the fixed list of cases and answers to DIR/stdin and DIR/stdout; DIR is named as the
                           program whose list it is, as in crates/replay
+  --recovery DIR          disturb the frames of DIR/stdin, count those that the original loses after it, and hold the
+                          lines against DIR/stdout, as in crates/recovery
   --answer                answer the cases on standard input, as our programs do
 options
   --original FILE         the original Rust file
@@ -23,6 +25,7 @@ pub enum Mode {
     Compare,
     SelfCheck,
     WriteList(PathBuf),
+    Recovery(PathBuf),
     Answer,
     Help,
 }
@@ -53,6 +56,7 @@ pub fn parse(mut arguments: impl Iterator<Item = String>) -> Result<Options, Str
             "--scale" => options.scale = Some(number(&value()?)?.max(1)),
             "--self-check" => options.mode = Mode::SelfCheck,
             "--write-list" => options.mode = Mode::WriteList(value()?.into()),
+            "--recovery" => options.mode = Mode::Recovery(value()?.into()),
             "--answer" => options.mode = Mode::Answer,
             "--help" => options.mode = Mode::Help,
             _ => {

@@ -2,11 +2,13 @@
 -- numbers, the others are those of its division.
 --   b           "B is F4 F3 F2 F1 0D 00 02 AA 03 78 00 3C 96 00 2D C8 00 55 00 F8 F7 F6 F5"
 --   bare        a command frame that is no acknowledgement: its data are a word alone
+--   begun       a report's header, and the length 54
+--   zeros n     a report frame with n data bytes, all 00: it has n + 10 bytes
 --   numbers     frames, resyncs, dropped, malformed and unfinished, in the order in which they are printed
 --   streams     the rows
-use mathlib.Core.List.{List, [], _∷_, _++_}
+use mathlib.Core.List.{List, [], _∷_, _++_, map}
 use Prim.Native.Nat.{ℕ}
-use lib.ListN.{take}
+use lib.ListN.{take, drop, replicate}
 use Rattle.framing.specs.Piece.{Piece, stray, broken, whole, unfinished}
 use Rattle.cases.specs.Row.{Numbers, Stream}
 
@@ -16,6 +18,12 @@ b = 0xF4 ∷ 0xF3 ∷ 0xF2 ∷ 0xF1 ∷ 0x0D ∷ 0x00 ∷ 0x02 ∷ 0xAA ∷ 0x03
 
 abbrev pub bare : List ℕ
 bare = 0xFD ∷ 0xFC ∷ 0xFB ∷ 0xFA ∷ 0x02 ∷ 0x00 ∷ 0xFF ∷ 0x00 ∷ 0x04 ∷ 0x03 ∷ 0x02 ∷ 0x01 ∷ []
+
+abbrev begun : List ℕ
+begun = 0xF4 ∷ 0xF3 ∷ 0xF2 ∷ 0xF1 ∷ 0x36 ∷ 0x00 ∷ []
+
+abbrev zeros : ℕ → List ℕ
+zeros n = 0xF4 ∷ 0xF3 ∷ 0xF2 ∷ 0xF1 ∷ n ∷ 0x00 ∷ (replicate n 0x00 ++ (0xF8 ∷ 0xF7 ∷ 0xF6 ∷ 0xF5 ∷ []))
 
 abbrev pub numbers : (frames resyncs dropped malformed unfinished : ℕ) → Numbers
 numbers f r d m u = record { frames = f; resyncs = r; dropped = d; malformed = m; unfinished = u }
@@ -52,4 +60,9 @@ streams =
     -- not the document's: each kind of piece in one stream; the byte that breaks a start begins the whole frame
     ∷ row (0x00 ∷ 0xF4 ∷ b ++ (0xFD ∷ []))
     (stray 0x00 ∷ broken (0xF4 ∷ []) ∷ whole b ∷ unfinished (0xFD ∷ []) ∷ []) (numbers 1 1 2 0 1)
+    -- item 5 of document 02: after a header and the length 54, B is found if it begins 54 bytes later
+    ∷ row (begun ++ (zeros 44 ++ b)) (broken (begun ++ zeros 44) ∷ whole b ∷ []) (numbers 1 1 60 0 0)
+    -- and lost if it begins 53 bytes later: its first byte is taken for the last data byte
+    ∷ row (begun ++ (zeros 43 ++ b)) (broken (begun ++ (zeros 43 ++ (0xF4 ∷ []))) ∷ map stray (drop 1 b))
+    (numbers 0 1 82 0 0)
     ∷ []

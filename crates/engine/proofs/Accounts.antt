@@ -27,7 +27,7 @@ cut-waits (unfinished s ∷ ps) = omega (arith, cut-waits ps, length-append s (c
 
 module _ {S A K : Type 0} (E : Engine S A K) where
   -- Calls without a reset are one stretch, of all that they took.
-  one-stretch : (calls : List Call) (p : List ℕ) (s : S) → Every Goes calls
+  pub one-stretch : (calls : List Call) (p : List ℕ) (s : S) → Every Goes calls
       → stretches p (history E s calls) ≡ soFar p (history E s calls) ∷ []
   one-stretch [] p s g = refl
   one-stretch (feed b ∷ cs) p s g = one-stretch cs (p ++ (b ∷ [])) (E .feed s b .0) (g .1)

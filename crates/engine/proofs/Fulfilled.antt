@@ -1,18 +1,17 @@
 -- A lawful engine fulfils demand 3, from every valid state, for every list of calls with bytes.
 use mathlib.Core.Path.{_≡_, refl, sym, _∙_, ap}
-use mathlib.Core.List.{List, [], _∷_, _++_, append-assoc, append-nil, cons≢nil}
+use mathlib.Core.List.{List, [], _∷_, _++_, append-assoc, append-nil}
 use Prim.Native.Nat.{ℕ, _+_, min}
 use native.Mathlib.Omega.{arith}
 use lib.ListN.{length}
 use Rattle.wire.specs.Bytes.{Every}
-use Rattle.framing.proofs.Framing.{Framing, Waits}
-use Rattle.framing.specs.Piece.{Piece}
-use Rattle.framing.specs.Division.{is-unfinished}
+use Rattle.framing.proofs.Framing.{Framing}
 use Rattle.framing.proofs.Counting.{Counting, total}
-use Rattle.framing.proofs.Scanner.{step, closed, rest}
+use Rattle.framing.proofs.Scanner.{closed, rest}
 use Rattle.framing.proofs.Division.{sum-append}
 use Rattle.framing.proofs.Scanned.{from, from-is, divided}
-use Rattle.framing.proofs.Append.{finished-total, from-finished, division-finished, division-cut}
+use Rattle.framing.proofs.Append.{finished-total, from-finished, division-cut}
+use Rattle.framing.proofs.Rest.{rest-append, closed-append, waits-closed, waits-rest}
 use Rattle.engine.specs.Engine.{Engine, history, final}
 use Rattle.engine.specs.Calls.{Call, feed, slice, reset, ByteCall, Did, fed, sliced, cleared, taken}
 use Rattle.engine.specs.Calls.{stretches, soFar}
@@ -21,27 +20,6 @@ use Rattle.engine.proofs.Lawful.{Decoding, protocolOf, Lawful}
 use Rattle.engine.proofs.Deliveries.{answersOf, answers-append, leftover-answers}
 use Rattle.engine.proofs.Moves.{DidRight, Moves, moves-byte, slice-moves, feed-right, slice-right}
 use Rattle.engine.proofs.Rights.{Rights, rights-none, rights-more, pieces, call-right}
-
-module _ (F : Framing) where
-  pub rest-append : (p t u : List ℕ) → rest F p (t ++ u) ≡ rest F (rest F p t) u
-  rest-append p [] u = refl
-  rest-append p (c ∷ t) u = rest-append (step F p c .pending) t u
-
-  closed-append : (p t u : List ℕ) → closed F p (t ++ u) ≡ closed F p t ++ closed F (rest F p t) u
-  closed-append p [] u = refl
-  closed-append p (c ∷ t) u =
-      let r = step F p c in
-      ap (λ (l : List Piece). r .closed ++ l) (closed-append (r .pending) t u)
-      ∙ sym (append-assoc (r .closed) (closed F (r .pending) t) (closed F (rest F (r .pending) t) u))
-
-  -- A string that waits closes nothing, and is what is pending after itself.
-  waits-closed : (p : List ℕ) → Waits F p → closed F [] p ≡ []
-  waits-closed [] w = refl
-  waits-closed (b ∷ p) w = sym (division-finished F (is-unfinished cons≢nil (w .0) (w .1)))
-
-  pub waits-rest : (p : List ℕ) → Waits F p → rest F [] p ≡ p
-  waits-rest [] w = refl
-  waits-rest (b ∷ p) w = sym (division-cut F (is-unfinished cons≢nil (w .0) (w .1))) ∙ append-nil (b ∷ p)
 
 module _ (F : Framing) {A K : Type 0} (D : Decoding A) (C : Counting K) where
   -- What is answered, and what is added, up to the unfinished end.

@@ -22,6 +22,10 @@ pub mod Fulfilled
 pub mod Accounts
 -- The claim leaves no choice.
 pub mod Same
+-- Calls without a reset.
+pub mod Taken
+-- The call that took a frame's last byte delivered it.
+pub mod Delivered
 -- An empty slice takes no byte, and delivers nothing.
 pub mod Empty
 -- Bytes fed one by one are one stretch.

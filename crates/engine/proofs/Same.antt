@@ -32,7 +32,7 @@ module _ (F : Framing) where
       (rw (← append-snoc u c (b ∷ t ++ w)) at e) f (placed ps (omega (arith, length-append u (c ∷ []))) x))
 
   -- So the frame that the last byte of t ends does not either.
-  same-last : (u t v w : List ℕ) {ps qs : List Piece} → Divides F (u ++ (t ++ v)) ps → Divides F (u ++ (t ++ w)) qs
+  pub same-last : (u t v w : List ℕ) {ps qs : List Piece} → Divides F (u ++ (t ++ v)) ps → Divides F (u ++ (t ++ w)) qs
       → (f : List ℕ) → LastEnds ps u t f ↔ LastEnds qs u t f
   same-last u [] v w d e f = ((λ x. absurd (x .0 refl)), (λ x. absurd (x .0 refl)))
   same-last u (c ∷ t) v w d e f =

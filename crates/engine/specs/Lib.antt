@@ -8,5 +8,7 @@ pub mod Calls
 pub mod Engine
 -- What a list of calls owes: demand 3.
 pub mod Fulfilled
+-- Which call delivered a frame.
+pub mod Delivered
 -- The claims about calls and their stretches.
 pub mod Claims

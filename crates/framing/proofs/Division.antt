@@ -1,6 +1,6 @@
 -- What a division's pieces spell and add up to.
 use mathlib.Core.Path.{_≡_, refl, sym, _∙_, ap}
-use mathlib.Core.List.{List, [], _∷_, _++_, append-nil}
+use mathlib.Core.List.{List, [], _∷_, _++_, append-assoc, append-nil}
 use Prim.Native.Nat.{ℕ, _+_}
 use native.Mathlib.Omega.{arith}
 use lib.ListN.{length, length-append}
@@ -11,6 +11,10 @@ use Rattle.framing.specs.Tally.{lost, inFrames, waiting, sum}
 pub sum-append : (f : Piece → ℕ) (ps qs : List Piece) → sum f (ps ++ qs) ≡ sum f ps + sum f qs
 sum-append f [] qs = omega arith
 sum-append f (p ∷ ps) qs = omega (arith, sum-append f ps qs)
+
+pub spelled-append : (ps qs : List Piece) → spelled (ps ++ qs) ≡ spelled ps ++ spelled qs
+spelled-append [] qs = refl
+spelled-append (p ∷ ps) qs = rw (spelled-append ps qs) (sym (append-assoc (bytes p) (spelled ps) (spelled qs)))
 
 -- The pieces of a division spell the stream.
 pub division-spelled : {O W : List ℕ → Type 0} {s : List ℕ} {ps : List Piece} → Division O W s ps → spelled ps ≡ s
@@ -34,3 +38,9 @@ parts (p ∷ ps) = omega (arith, length-append (bytes p) (spelled ps), part p, p
 pub division-length : {O W : List ℕ → Type 0} {s : List ℕ} {ps : List Piece} → Division O W s ps
     → length s ≡ sum lost ps + sum waiting ps + sum inFrames ps
 division-length {s = s} {ps} d = ap length (sym (division-spelled d)) ∙ parts ps
+
+-- Where a whole frame is the last piece, it ends with the string.
+pub last-place : {O W : List ℕ → Type 0} {s : List ℕ} (ps : List Piece) (f : List ℕ)
+    → Division O W s (ps ++ (whole f ∷ [])) → length (spelled ps ++ f) ≡ length s
+last-place ps f d = ap length (ap (λ (l : List ℕ). spelled ps ++ l) (sym (append-nil f))
+    ∙ sym (spelled-append ps (whole f ∷ [])) ∙ division-spelled d)

@@ -18,6 +18,8 @@ pub mod View
 pub mod Scanned
 -- A division with more bytes after it.
 pub mod Append
+-- What a string closes, and what is pending after it.
+pub mod Rest
 -- Where the scanner ends a frame, a whole piece of every division ends.
 pub mod Events
 -- How often a stream can break.

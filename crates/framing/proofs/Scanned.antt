@@ -59,10 +59,10 @@ module _ (F : Framing) where
   reads [] u w = absurd (F .laws .empty-not-whole w)
   reads (c ∷ t) u w = read [] c t u w
 
-  strays-first : (b : ℕ) (t : List ℕ) → ¬ F .Open (b ∷ []) → from [] (b ∷ t) ≡ stray b ∷ from [] t
+  pub strays-first : (b : ℕ) (t : List ℕ) → ¬ F .Open (b ∷ []) → from [] (b ∷ t) ≡ stray b ∷ from [] t
   strays-first b t n = ap (λ (r : Step). then r t) (step-over F [] b n)
 
-  breaks-first : (s : List ℕ) (c : ℕ) (t : List ℕ) → s ≢ [] → Waits F s → ¬ F .Open (s ++ (c ∷ []))
+  pub breaks-first : (s : List ℕ) (c : ℕ) (t : List ℕ) → s ≢ [] → Waits F s → ¬ F .Open (s ++ (c ∷ []))
       → from [] (s ++ (c ∷ t)) ≡ broken s ∷ from [] (c ∷ t)
   breaks-first [] c t ne w n = absurd (ne refl)
   breaks-first (b ∷ s) c t ne w n =

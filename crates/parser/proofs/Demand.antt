@@ -17,6 +17,7 @@ use Rattle.stream.specs.Deliver.{dropped, frames}
 use Rattle.stream.specs.Protocol.{ld2410}
 use Rattle.stream.proofs.Link.{link}
 use Rattle.stream.proofs.Decoding.{decoding, counting}
+use Rattle.stream.proofs.Recovery.{recovers}
 use Rattle.scan.specs.Scan.{hunting, wellFormed, orReset}
 use Rattle.scan.specs.Stands.{OutOfRange, pendingOf}
 use Rattle.scan.specs.declared.Scan.{Scan}
@@ -89,6 +90,7 @@ from-any x v = record {
       let z = left x calls in
       resumed (link linkLimit) decoding counting (engine linkLimit) (engine linkLimit) x y calls more
       (demand z (left-valid x v calls h) more g) (d more g) refl e (λ k. ap (counterIn k) (sym st));
+  recovers = recovers linkLimit (omega arith) (engine linkLimit) (pending x v) x (demand x v);
 }
 
 -- A parser just reset has nothing pending, and a fresh one is as if it were.

@@ -8,6 +8,8 @@ pub mod Slicing
 pub mod Engines
 -- Demand 3.
 pub mod Demand
+-- 53 bytes are not enough.
+pub mod Sooner
 -- A parser in memory.
 pub mod Memory
 -- What a parser's type says of it, and what follows of demand 3.

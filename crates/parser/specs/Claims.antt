@@ -6,6 +6,9 @@
 --   Determined p x    the demand leaves no choice: whatever fulfils it does as the parser x does
 --   Stands x p        p is what x stands for: the bytes of the frame in progress, none where a field is out of range
 --   FromAny x         whatever its fields are, the demand holds of x, with what it stands for pending; and what follows
+--   cutOff            a parser after a report's header and the length 54; shortFrame, a frame of 53 bytes
+--   TooSoon x         bytes fed to x leave cutOff, and there the frame after shortFrame is lost, and after one of 54
+--                     bytes is not
 --   Accounted x       from x, without a reset and while `dropped` is not full, no byte is unaccounted for
 --   ResetFirst x y    x, with a field out of range, is fed as y is, which is what a reset of x leaves
 -- What is fulfilled stands in the crate `engine` (Fulfilled), what is open, whole, decodes and is delivered in the
@@ -14,21 +17,26 @@
 use mathlib.Core.Path.{_≡_}
 use mathlib.Core.List.{List, [], _∷_, _++_}
 use Prim.Native.Nat.{ℕ, _+_, _<_, min}
-use lib.ListN.{length}
+use lib.ListN.{length, replicate}
 use Rattle.wire.specs.Counter.{counterMax}
 use Rattle.wire.specs.Bytes.{Every}
+use Rattle.wire.specs.Family.{framed}
+use Rattle.wire.specs.declared.Kind.the-variants.{Report}
 use Rattle.stream.specs.Length.{linkLimit}
 use Rattle.framing.specs.Piece.{Piece}
 use Rattle.framing.specs.Division.{Division}
 use Rattle.framing.specs.Tally.{sum, inFrames}
-use Rattle.engine.specs.Calls.{Call, ByteCall, Goes, Did, sliced, takenBy}
+use Rattle.engine.specs.Calls.{Call, ByteCall, Goes, feeds, Did, sliced, takenBy}
 use Rattle.engine.specs.Engine.{Engine, history, final}
 use Rattle.engine.specs.Fulfilled.{deliveries, Fulfilled, Same}
 use Rattle.stream.specs.Open.{Open, Whole}
 use Rattle.stream.specs.Deliver.{Answer, nothing, Counter}
 use Rattle.stream.specs.Protocol.{ld2410}
+use Rattle.stream.specs.Recovery.{Clean, Recovered, Recovers, Lost}
+use Rattle.scan.specs.Scan.{at}
 use Rattle.scan.specs.Stands.{OutOfRange, pendingOf}
-use Rattle.parser.specs.Feed.{feedOf, feedSliceOf, unfinishedOf}
+use Rattle.scan.specs.declared.State.the-variants.{Data}
+use Rattle.parser.specs.Feed.{noStats, put, feedOf, feedSliceOf, unfinishedOf}
 use Rattle.parser.specs.Engine.{counterIn, pendingBy, engine}
 use Rattle.parser.specs.declared.Parser.{Parser}
 
@@ -69,6 +77,30 @@ pub record FromAny (x : Parser) : Type 0 where
   pub resumed : (calls more : List Call) → Every ByteCall calls → Every ByteCall more
       → (y : Parser) → Demand3 (pendingBy linkLimit y) y → pendingBy linkLimit y ≡ pendingBy linkLimit (left x calls)
       → y .stats ≡ left x calls .stats → did x (calls ++ more) ≡ did x calls ++ did y more
+  -- Item 5 of document 02: "Suppose the parser is in any state"
+  pub recovers : Recovers linkLimit (engine linkLimit) (pendingBy linkLimit x) x
+
+-- Its other part: "Show too that 53 is not enough." A parser and a frame, as values.
+abbrev pub cutOff : Parser
+cutOff = put (replicate 64 0) (at Data Report 0 54 0) noStats
+
+abbrev pub shortFrame : List ℕ
+shortFrame = framed Report (replicate 43 0)
+
+pub record TooSoon (x : Parser) : Type 0 where
+  -- the parser is reached by bytes
+  pub reached : left x (feeds (0xF4 ∷ 0xF3 ∷ 0xF2 ∷ 0xF1 ∷ 0x36 ∷ 0x00 ∷ [])) ≡ cutOff
+  -- the next frame begins 53 bytes later, and is not found
+  pub sooner : length shortFrame ≡ 53
+  pub lost : Lost linkLimit (pendingBy linkLimit cutOff) (shortFrame ∷ [])
+  -- whichever it is, and whatever calls take the two, nothing is delivered
+  pub undelivered : (calls : List Call) → Every ByteCall calls → Every Goes calls → (f : List ℕ) → Clean linkLimit f
+      → takenBy (did cutOff calls) ≡ shortFrame ++ f → deliveries (ld2410 linkLimit .delivers) (did cutOff calls) ≡ []
+  -- one byte more is: a clean frame after one of 54 bytes is found, and delivered if it decodes
+  pub enough : (calls : List Call) → Every ByteCall calls → Every Goes calls → (g f : List ℕ)
+      → Clean linkLimit g → length g ≡ 54 → Clean linkLimit f → takenBy (did cutOff calls) ≡ g ++ f → (ps : List Piece)
+      → Division (Open linkLimit) (Whole linkLimit) (pendingBy linkLimit cutOff ++ takenBy (did cutOff calls)) ps
+      → Recovered linkLimit (did cutOff calls) (pendingBy linkLimit cutOff) (g ∷ []) f [] ps
 
 -- "from fresh, without a reset and with no counter full, bytes taken equal dropped plus unfinished plus the lengths of
 -- whole frames"

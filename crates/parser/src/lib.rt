@@ -17,7 +17,7 @@ ghost use mathlib.Core.Path.{_≡_};
 ghost use mathlib.Core.List.{[]};
 ghost use Rattle.stream.specs.Length.{linkLimit};
 ghost use Rattle.parser.specs.Feed.{fresh, unfinishedOf};
-ghost use Rattle.parser.specs.Claims.{FromHere, Accounted, Determined};
+ghost use Rattle.parser.specs.Claims.{FromHere, Accounted, Determined, TooSoon};
 
 // A streaming parser. The buffer holds the data bytes of the frame in progress, or of the last whole frame.
 pub struct Parser {
@@ -45,6 +45,7 @@ impl Parser {
         ensures fulfilled { λ r. ⌜ FromHere r ⌝ }
         ensures accounted { λ r. ⌜ Accounted r ⌝ }
         ensures determined { λ r. ⌜ Determined [] r ⌝ }
+        ensures sooner { λ r. ⌜ TooSoon r ⌝ }
     {
         Parser {
             buf: [0; MAX_FRAME],

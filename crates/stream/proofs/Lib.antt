@@ -23,3 +23,13 @@ pub mod Begins
 pub mod Traps
 -- A byte F4 again and again.
 pub mod Repeated
+-- Pending strings that await nothing, or a tail.
+pub mod Idle
+-- Clean frames, byte by byte.
+pub mod Clean
+-- How many data bytes a pending string still takes.
+pub mod Owing
+-- Clean frames are found and delivered.
+pub mod Recovery
+-- One byte less is not enough.
+pub mod Sooner

@@ -35,7 +35,7 @@ module _ (limit : ℕ) where
   breaks s b c t ps e o n d = is-broken e (open-prefix limit s (b ∷ []) o) (λ w. whole-ends limit s b w o) n d
 
   -- A header, a byte and another are open exactly if the two make a length in range.
-  length-opened : (k : Kind) (lo hi : ℕ)
+  pub length-opened : (k : Kind) (lo hi : ℕ)
       → opens limit ((header k ++ (lo ∷ [])) ++ (hi ∷ [])) ≡ inRange limit (little (lo ∷ hi ∷ []))
   length-opened k lo hi = rw (append-assoc (header k) (lo ∷ []) (hi ∷ [])) (data-opens limit k lo hi [] (omega arith))
 
@@ -48,12 +48,12 @@ module _ (limit : ℕ) where
 
   module _ (k : Kind) (lo hi : ℕ) (d : List ℕ) (m : ℕ) (r : InRange limit (little (lo ∷ hi ∷ [])))
       (l : length d ≡ little (lo ∷ hi ∷ [])) (u : m < 4) where
-    tail-spelled : (b : ℕ) → (header k ++ (lo ∷ hi ∷ (d ++ take m (tail k)))) ++ (b ∷ [])
+    pub tail-spelled : (b : ℕ) → (header k ++ (lo ∷ hi ∷ (d ++ take m (tail k)))) ++ (b ∷ [])
         ≡ header k ++ (lo ∷ hi ∷ (d ++ (take m (tail k) ++ (b ∷ []))))
     tail-spelled b = simp append-assoc
 
     -- All the data bytes and m of the tail's go on with the tail's next byte, and with no other.
-    tail-goes-on : (b : ℕ)
+    pub tail-goes-on : (b : ℕ)
         → opens limit ((header k ++ (lo ∷ hi ∷ (d ++ take m (tail k)))) ++ (b ∷ [])) ≡ eqb b (getD (tail k) m 0)
     tail-goes-on b = rw (tail-spelled b) (tail-opens limit k lo hi d l (range-true limit _ .1 r) m b u)
 

@@ -7,17 +7,23 @@ use mathlib.Core.Bool.{true}
 use Prim.Native.Nat.{ℕ, suc, _+_, _-_, _≤_, _<_}
 use lib.ListN.{length, getD, take, replicate}
 use Rattle.refusal.specs.Check.{Passes}
-use Rattle.wire.specs.Number.{little}
+use Rattle.wire.specs.Number.{little, leBytes}
 use Rattle.wire.specs.Family.{header, tail, framed}
 use Rattle.wire.specs.declared.Kind.{Kind}
-use Rattle.wire.specs.Bytes.{Bytes}
+use Rattle.wire.specs.declared.Kind.the-variants.{Report}
+use Rattle.wire.specs.Bytes.{Every, Bytes}
 use Rattle.frame.specs.Frame.{bodyChecks, decoded}
 use Rattle.framing.specs.Piece.{Piece, broken, spelled}
 use Rattle.framing.specs.Division.{Division, Divided, EndsAt, finished, cut}
 use Rattle.framing.specs.Tally.{resynced, lost, inFrames, waiting, sum}
+use Rattle.engine.specs.Calls.{Call, ByteCall}
+use Rattle.engine.specs.Engine.{Engine}
+use Rattle.engine.specs.Fulfilled.{Fulfilled}
 use Rattle.stream.specs.Length.{InRange}
 use Rattle.stream.specs.Open.{Open, Whole}
 use Rattle.stream.specs.Deliver.{Answer, decodes, payloadOf, delivered, Counter, adds}
+use Rattle.stream.specs.Protocol.{ld2410}
+use Rattle.stream.specs.Recovery.{Recovers, Lost}
 
 -- A whole frame of bytes is what framing its data gives.
 unfoldable pub WholeFramed : Type 0
@@ -104,3 +110,15 @@ unfoldable pub DeliversWhole : Type 0
 DeliversWhole = (limit : ℕ) (s : List ℕ) (w : Whole limit s) (r : List ℕ) → Bytes s
     → let x = decoded 4 (w .kind) (w .held) .frame in
     _≡_ {A = Answer} (delivered s) (x, payloadOf x (w .held ++ r))
+
+-- Item 5 of document 02, for every largest length up to 512: a parser that fulfils demand 3 recovers, whatever is
+-- pending. It speaks of states that are lists of numbers, since a contract can hold no statement about all types.
+unfoldable pub AnyRecovers : Type 0
+AnyRecovers = (limit : ℕ) → limit ≤ 512 → (E : Engine (List ℕ) Answer Counter) (p s : List ℕ)
+    → ((calls : List Call) → Every ByteCall calls → Fulfilled (ld2410 limit) E p s calls) → Recovers limit E p s
+
+-- One byte less is not enough: a report's header and the length `limit` are pending, and then comes a report whose
+-- data are zeros. Below 13 no frame is so short.
+unfoldable pub NotSooner : Type 0
+NotSooner = (limit : ℕ) → 13 ≤ limit → limit ≤ 512
+    → Lost limit (header Report ++ leBytes 2 limit) (framed Report (replicate (limit - 11) 0) ∷ [])

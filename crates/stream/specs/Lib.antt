@@ -4,6 +4,8 @@ pub mod Open
 pub mod Deliver
 -- The link as demand 3 speaks of it.
 pub mod Protocol
+-- How soon the stream is read right again.
+pub mod Recovery
 -- The claims.
 pub mod Claims
 pub mod Length

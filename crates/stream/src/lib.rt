@@ -9,6 +9,7 @@ ghost use Rattle.stream.specs.Claims.{DividesOnce, DivisionSpelled, Divi
 ghost use Rattle.stream.specs.Claims.{DivisionAppend, TotalAppend, EndsForGood, ResyncsBound, ResyncsReached};
 ghost use Rattle.stream.specs.Claims.{BadLength, BrokenTail};
 ghost use Rattle.stream.specs.Claims.{DecodesWhole, DeliversWhole};
+ghost use Rattle.stream.specs.Claims.{AnyRecovers, NotSooner};
 
 // A whole frame is what framing its data gives; a stray byte is neither of two.
 fn framing_claims()
@@ -40,4 +41,10 @@ fn trap_claims()
 fn delivery_claims()
     ensures decodes { λ _. ⌜ DecodesWhole ⌝ }
     ensures delivers { λ _. ⌜ DeliversWhole ⌝ }
+{}
+
+// How soon the stream is read right again, and that one byte less is not enough.
+fn recovery_claims()
+    ensures recovers { λ _. ⌜ AnyRecovers ⌝ }
+    ensures not_sooner { λ _. ⌜ NotSooner ⌝ }
 {}

@@ -1,0 +1,116 @@
+-- After any pending string, each clean frame that begins `limit` or more bytes later is a whole piece, in its place;
+-- and, from demand 3 alone, it is delivered if it decodes.
+use mathlib.Core.Path.{_≡_, sym, _∙_, ap, subst}
+use mathlib.Core.List.{List, [], _∷_, _++_, append-nil, append-assoc}
+use Prim.Native.Nat.{ℕ, _≤_}
+use native.Mathlib.Omega.{arith}
+use lib.ListN.{length, length-append}
+use Rattle.wire.specs.Bytes.{Every}
+use Rattle.framing.proofs.Framing.{Divides}
+use Rattle.framing.specs.Piece.{Piece, whole}
+use Rattle.framing.specs.Division.{EndsAt, is-whole}
+use Rattle.framing.proofs.Division.{last-place}
+use Rattle.framing.proofs.Scanner.{Step, step, closed, rest}
+use Rattle.framing.proofs.View.{nothing-waits, rest-waits, step-on}
+use Rattle.framing.proofs.Scanned.{from, from-append, scanner-sound, scanner-complete}
+use Rattle.framing.proofs.Rest.{rest-append}
+use Rattle.engine.specs.Calls.{Call, ByteCall, Goes, takenBy}
+use Rattle.engine.specs.Engine.{Engine, history}
+use Rattle.engine.specs.Fulfilled.{Fulfilled}
+use Rattle.engine.specs.Delivered.{DeliveredBy}
+use Rattle.engine.proofs.Delivered.{delivered-by}
+use Rattle.stream.specs.Deliver.{Answer, Counter}
+use Rattle.stream.specs.Protocol.{ld2410}
+use Rattle.stream.specs.Recovery.{Clean, joined, Recovers}
+use Rattle.stream.proofs.Link.{link}
+use Rattle.stream.proofs.Decoding.{decoding, counting}
+use Rattle.stream.proofs.Idle.{Ready, first, first-waits}
+use Rattle.stream.proofs.Clean.{kind, behind, spelled}
+use Rattle.stream.proofs.Owing.{frames-ready}
+
+module _ (limit : ℕ) (f : List ℕ) (x : Clean limit f) where
+  abbrev start : ℕ
+  start = first (kind limit f x)
+
+  -- After a string that is ready the frame is a whole piece, whatever follows it.
+  alone : (v : List ℕ) → from (link limit) (start ∷ []) (behind limit f x ++ v) ≡ whole f ∷ from (link limit) [] v
+  alone v =
+      let d : Divides (link limit) (f ++ v) (whole f ∷ from (link limit) [] v) =
+      is-whole (x .0) (scanner-sound (link limit) [] v (nothing-waits (link limit))) in
+      let one = step-on (link limit) [] start (first-waits limit (kind limit f x)) in
+      sym (scanner-complete (link limit) d
+      ∙ ap (λ (g : List ℕ). from (link limit) [] (g ++ v)) (spelled limit f x)
+      ∙ ap (λ (r : Step). r .closed ++ from (link limit) (r .pending) (behind limit f x ++ v)) one)
+
+  ready-found : (v q : List ℕ) → Ready limit q → from (link limit) q (f ++ v)
+      ≡ step (link limit) q start .closed ++ (whole f ∷ from (link limit) [] v)
+  ready-found v q h =
+      ap (λ (g : List ℕ). from (link limit) q (g ++ v)) (spelled limit f x)
+      ∙ ap (λ (p : List ℕ). step (link limit) q start .closed ++ from (link limit) p (behind limit f x ++ v))
+      (h (kind limit f x))
+      ∙ ap (λ (l : List Piece). step (link limit) q start .closed ++ l) (alone v)
+
+  module _ (small : limit ≤ 512) (p : List ℕ) (early : List (List ℕ)) (c : Every (Clean limit) early)
+      (late : limit ≤ length (joined early)) where
+    abbrev t : List ℕ
+    t = joined early
+
+    -- What is pending where the frame begins, and the pieces before it.
+    abbrev q : List ℕ
+    q = rest (link limit) [] (p ++ t)
+
+    abbrev before : List Piece
+    before = closed (link limit) [] (p ++ t) ++ step (link limit) q start .closed
+
+    q-ready : Ready limit q
+    q-ready =
+        let some : 1 ≤ limit = omega (arith, x .0 .in-range .0, x .0 .in-range .1) in
+        let w = rest-waits (link limit) [] p (nothing-waits (link limit)) in
+        rw (rest-append (link limit) [] p t) (frames-ready limit small some (rest (link limit) [] p) w early c late)
+
+    pieces-are : (v : List ℕ) → from (link limit) [] (p ++ (t ++ (f ++ v)))
+        ≡ before ++ (whole f ∷ from (link limit) [] v)
+    pieces-are v =
+        ap (from (link limit) []) (sym (append-assoc p t (f ++ v)))
+        ∙ from-append (link limit) [] (p ++ t) (f ++ v)
+        ∙ ap (λ (l : List Piece). closed (link limit) [] (p ++ t) ++ l) (ready-found v q q-ready)
+        ∙ sym (append-assoc (closed (link limit) [] (p ++ t)) (step (link limit) q start .closed)
+        (whole f ∷ from (link limit) [] v))
+
+    divides : (v : List ℕ) → Divides (link limit) (p ++ (t ++ (f ++ v))) (before ++ (whole f ∷ from (link limit) [] v))
+    divides v = subst (Divides (link limit) (p ++ (t ++ (f ++ v)))) (pieces-are v)
+        (scanner-sound (link limit) [] (p ++ (t ++ (f ++ v))) (nothing-waits (link limit)))
+
+    front : Divides (link limit) (p ++ (t ++ f)) (before ++ (whole f ∷ []))
+    front = rw append-nil at (divides [])
+
+    -- The frame is found, in its place.
+    module _ (v : List ℕ) (ps : List Piece) (d : Divides (link limit) (p ++ (t ++ (f ++ v))) ps) where
+      abbrev found : EndsAt ps (length (p ++ (t ++ f))) f
+      found = record {
+        before = before;
+        after = from (link limit) [] v;
+        split = scanner-complete (link limit) d ∙ pieces-are v;
+        place = last-place before f front;
+      }
+
+      -- And delivered, by any engine that fulfils demand 3.
+      delivered : {S : Type 0} (E : Engine S Answer Counter) (s : S)
+          → ((calls : List Call) → Every ByteCall calls → Fulfilled (ld2410 limit) E p s calls)
+          → (calls : List Call) → Every ByteCall calls → Every Goes calls
+          → takenBy (history E s calls) ≡ t ++ (f ++ v)
+          → DeliveredBy (ld2410 limit) (history E s calls) (t ++ f) (found .before) f (found .after)
+      delivered E s fulfils calls bytes goes e =
+          delivered-by (link limit) decoding counting E p s fulfils calls bytes goes (t ++ f) v
+          (e ∙ sym (append-assoc t f v)) before f (from (link limit) [] v) front (rw (append-assoc t f v) (divides v))
+          (omega (arith, length-append t f, late, x .0 .in-range .0, x .0 .in-range .1))
+
+pub recovers : (limit : ℕ) → limit ≤ 512 → {S : Type 0} (E : Engine S Answer Counter) (p : List ℕ) (s : S)
+    → ((calls : List Call) → Every ByteCall calls → Fulfilled (ld2410 limit) E p s calls) → Recovers limit E p s
+recovers limit small E p s fulfils calls bytes goes early c late f x v e ps d =
+    let d′ = subst (λ (l : List ℕ). Divides (link limit) (p ++ l) ps) e d in
+    record {
+      found = found limit f x small p early c (omega arith) v ps d′;
+      delivered = delivered limit f x small p early c (omega arith) v ps d′ E s fulfils calls bytes goes e;
+      anew = scanner-sound (link limit) [] v (nothing-waits (link limit));
+    }

@@ -1,0 +1,69 @@
+-- How soon the stream is read right again: item 5 of document 02, over the largest length `limit`, which it sets to 54.
+--   Plain b               b begins no header
+--   Clean limit f         f is a whole frame with plain data bytes alone
+--   joined fs             the frames fs, "back to back"
+--   Recovered             a frame after others is found, and delivered if it decodes
+--   Recovers limit E p s  so is, from the state s of the engine E, in which p is pending, each clean frame that begins
+--                         `limit` or more bytes later
+--   Lost limit p early    after p and the frames `early`, which are one byte shorter than `limit`, the next clean frame
+--                         is neither found nor delivered
+use mathlib.Core.Path.{_≡_}
+use mathlib.Core.Logic.{_≢_}
+use mathlib.Core.List.{List, [], _∷_, _++_}
+use Prim.Native.Nat.{ℕ, suc, _≤_}
+use lib.ListN.{length}
+use Rattle.wire.specs.Bytes.{Every}
+use Rattle.framing.specs.Piece.{Piece}
+use Rattle.framing.specs.Division.{Division, EndsAt}
+use Rattle.engine.specs.Calls.{Call, ByteCall, Goes, Did, takenBy}
+use Rattle.engine.specs.Engine.{Engine, history}
+use Rattle.engine.specs.Fulfilled.{answers}
+use Rattle.engine.specs.Delivered.{DeliveredBy}
+use Rattle.stream.specs.Open.{Open, Whole}
+use Rattle.stream.specs.Deliver.{Answer, decodes, delivered, Counter}
+use Rattle.stream.specs.Protocol.{ld2410}
+
+abbrev pub Plain : ℕ → Type 0
+Plain b = (b ≢ 0xF4) × (b ≢ 0xFD)
+
+-- "whole frames .., lengths 2 to 54, none with F4 or FD among its data bytes"
+abbrev pub Clean : ℕ → List ℕ → Type 0
+Clean limit f = (w : Whole limit f) × Every Plain (w .held)
+
+abbrev pub joined : List (List ℕ) → List ℕ
+joined [] = []
+joined (f ∷ fs) = f ++ joined fs
+
+-- The calls did ds, after p was pending, and took the frames `early`, then f, then v; ps are the pieces.
+pub record Recovered (limit : ℕ) (ds : List (Did Answer)) (p : List ℕ) (early : List (List ℕ)) (f v : List ℕ)
+    (ps : List Piece) : Type 0 where
+  -- "is found whole", in its place
+  pub found : EndsAt ps (length (p ++ (joined early ++ f))) f
+  -- "and it is delivered if it decodes", once, in order, by the call that took its last byte
+  pub delivered : DeliveredBy (ld2410 limit) ds (joined early ++ f) (found .before) f (found .after)
+  -- what arrives after it is divided as if nothing had come before
+  pub anew : Division (Open limit) (Whole limit) v (found .after)
+
+-- "Suppose the parser is in any state, and from there on, without a reset, only whole frames arrive, back to back ..
+-- Then each of them that begins 54 or more bytes after that moment" is recovered: f, after the frames `early`. What
+-- arrives after f, v, may be anything.
+abbrev pub Recovers : {S : Type 0} → ℕ → Engine S Answer Counter → List ℕ → S → Type 0
+Recovers limit E p s = (calls : List Call) → Every ByteCall calls → Every Goes calls
+    → (early : List (List ℕ)) → Every (Clean limit) early → limit ≤ length (joined early)
+    → (f : List ℕ) → Clean limit f → (v : List ℕ) → takenBy (history E s calls) ≡ joined early ++ (f ++ v)
+    → (ps : List Piece) → Division (Open limit) (Whole limit) (p ++ takenBy (history E s calls)) ps
+    → Recovered limit (history E s calls) p early f v ps
+
+-- "Show too that 53 is not enough."
+pub record Lost (limit : ℕ) (p : List ℕ) (early : List (List ℕ)) : Type 0 where
+  -- p may be pending, and the frames are such as above
+  pub may-wait : Open limit p × (¬ Whole limit p)
+  pub clean : Every (Clean limit) early
+  pub sooner : suc (length (joined early)) ≡ limit
+  -- whichever clean frame is next, and whatever follows it, it is no whole piece in its place
+  pub unfound : (f : List ℕ) → Clean limit f → (v : List ℕ) (ps : List Piece)
+      → Division (Open limit) (Whole limit) (p ++ (joined early ++ (f ++ v))) ps
+      → ¬ EndsAt ps (length (p ++ (joined early ++ f))) f
+  -- and up to its end no piece is delivered
+  pub undelivered : (f : List ℕ) → Clean limit f → (ps : List Piece)
+      → Division (Open limit) (Whole limit) (p ++ (joined early ++ f)) ps → answers decodes delivered ps ≡ []
