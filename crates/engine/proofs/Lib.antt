@@ -24,7 +24,9 @@ pub mod Accounts
 pub mod Same
 -- Calls without a reset.
 pub mod Taken
--- The call that took a frame's last byte delivered it.
+-- A call that took a frame's last byte.
+pub mod LastByte
+-- It delivered the frame, and the calls before and after it the others.
 pub mod Delivered
 -- An empty slice takes no byte, and delivers nothing.
 pub mod Empty

@@ -17,10 +17,6 @@ use Rattle.engine.proofs.Lawful.{Decoding, protocolOf}
 use Rattle.engine.proofs.Deliveries.{answersOf}
 use Rattle.engine.proofs.Accounts.{one-stretch, all-taken}
 
-pub every-split : {A : Type 0} (P : A → Type 0) (l m : List A) → Every P (l ++ m) → Every P l × Every P m
-every-split P [] m h = (tt, h)
-every-split P (a ∷ l) m h = let r = every-split P l m (h .1) in ((h .0, r .0), r .1)
-
 module _ {A : Type 0} where
   pub taken-append : (ds es : List (Did A)) → takenBy (ds ++ es) ≡ takenBy ds ++ takenBy es
   taken-append [] es = refl

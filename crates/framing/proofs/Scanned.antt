@@ -55,7 +55,7 @@ module _ (F : Framing) where
       ap (λ (r : Step). then r (d ∷ (t ++ u))) (step-on F p c (before-more q d t (F .laws .whole-open _ w′)))
       ∙ read q d t u w′ ∙ ap (λ (l : List ℕ). whole l ∷ from [] u) (append-snoc p c (d ∷ t))
 
-  reads : (s u : List ℕ) → F .Whole s → from [] (s ++ u) ≡ whole s ∷ from [] u
+  pub reads : (s u : List ℕ) → F .Whole s → from [] (s ++ u) ≡ whole s ∷ from [] u
   reads [] u w = absurd (F .laws .empty-not-whole w)
   reads (c ∷ t) u w = read [] c t u w
 

@@ -15,9 +15,11 @@ use Rattle.engine.proofs.Same.{same}
 use Rattle.engine.proofs.Resumed.{resumed}
 use Rattle.stream.specs.Deliver.{dropped, frames}
 use Rattle.stream.specs.Protocol.{ld2410}
+use Rattle.stream.specs.Recovery.{Recovers}
 use Rattle.stream.proofs.Link.{link}
 use Rattle.stream.proofs.Decoding.{decoding, counting}
 use Rattle.stream.proofs.Recovery.{recovers}
+use Rattle.stream.proofs.Regained.{regains}
 use Rattle.scan.specs.Scan.{hunting, wellFormed, orReset}
 use Rattle.scan.specs.Stands.{OutOfRange, pendingOf}
 use Rattle.scan.specs.declared.Scan.{Scan}
@@ -77,6 +79,9 @@ module _ (x : Parser) (v : Valid linkLimit x) where
         ∙ ap (λ qs. left x calls .stats .dropped + unfinishedOf linkLimit (left x calls) + sum inFrames qs)
         (sym (y .divide (takenBy (did x calls)) .only ps d))
 
+  recovered : Recovers linkLimit (engine linkLimit) pending x
+  recovered = recovers linkLimit (omega arith) (engine linkLimit) pending x demand
+
 pub from-any : (x : Parser) → Valid linkLimit x → FromAny x
 from-any x v = record {
   stands = stands x;
@@ -90,14 +95,15 @@ from-any x v = record {
       let z = left x calls in
       resumed (link linkLimit) decoding counting (engine linkLimit) (engine linkLimit) x y calls more
       (demand z (left-valid x v calls h) more g) (d more g) refl e (λ k. ap (counterIn k) (sym st));
-  recovers = recovers linkLimit (omega arith) (engine linkLimit) (pending x v) x (demand x v);
+  recovers = recovered x v;
+  regains = regains linkLimit (omega arith) (engine linkLimit) (pending x v) x (recovered x v);
 }
 
 -- A parser just reset has nothing pending, and a fresh one is as if it were.
 reset-valid : (p : Parser) → Valid linkLimit p → Valid linkLimit (resetOf p)
 reset-valid p v = record { room = v .room; capped = v .capped }
 
-fresh-valid : Valid linkLimit fresh
+pub fresh-valid : Valid linkLimit fresh
 fresh-valid = record {
   room = omega arith;
   capped = record { frames = omega arith; resyncs = omega arith; dropped = omega arith; malformed = omega arith };

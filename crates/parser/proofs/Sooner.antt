@@ -9,6 +9,9 @@ use Rattle.wire.specs.Family.{header, framed}
 use Rattle.wire.specs.Number.{leBytes}
 use Rattle.wire.specs.declared.Kind.the-variants.{Report}
 use Rattle.stream.specs.Length.{linkLimit}
+use Rattle.framing.specs.Piece.{Piece}
+use Rattle.framing.specs.Division.{EndsAt}
+use Rattle.framing.proofs.Framing.{Divides}
 use Rattle.engine.specs.Calls.{Call, ByteCall, Goes, feeds, takenBy}
 use Rattle.engine.specs.Fulfilled.{deliveries}
 use Rattle.engine.proofs.Taken.{stretch-delivered}
@@ -26,7 +29,7 @@ use Rattle.parser.specs.Feed.{fresh, feedOf}
 use Rattle.parser.specs.Engine.{pendingBy, engine}
 use Rattle.parser.specs.Claims.{did, left, cutOff, shortFrame, TooSoon}
 use Rattle.parser.proofs.Feeding.{Valid}
-use Rattle.parser.proofs.Demand.{from-any}
+use Rattle.parser.proofs.Demand.{from-any, fresh-valid}
 
 reached : left fresh (feeds (0xF4 ∷ 0xF3 ∷ 0xF2 ∷ 0xF1 ∷ 0x36 ∷ 0x00 ∷ [])) ≡ cutOff
 unfolding feedOf movedOf bufOf wellFormed orReset startOf stepOf stored
@@ -41,10 +44,7 @@ lost = subst (λ (p : List ℕ). Lost linkLimit p (shortFrame ∷ [])) (sym stan
     (not-sooner linkLimit (omega arith) (omega arith))
 
 cut-off-valid : Valid linkLimit cutOff
-cut-off-valid = record {
-  room = omega arith;
-  capped = record { frames = omega arith; resyncs = omega arith; dropped = omega arith; malformed = omega arith };
-}
+cut-off-valid = record { room = fresh-valid .room; capped = fresh-valid .capped }
 
 silent : (calls : List Call) → Every ByteCall calls → Every Goes calls → (f : List ℕ) → Clean linkLimit f
     → takenBy (did cutOff calls) ≡ shortFrame ++ f → deliveries (ld2410 linkLimit .delivers) (did cutOff calls) ≡ []
@@ -56,12 +56,19 @@ silent calls h g f c e =
     stretch-delivered (engine linkLimit) (link linkLimit) decoding counting p cutOff calls x g (y .pieces)
     (rw t (y .division)) ∙ lost .undelivered f c (y .pieces) (y .division)
 
+missed : (calls : List Call) → Every ByteCall calls → Every Goes calls → (f : List ℕ) → Clean linkLimit f
+    → (v : List ℕ) → takenBy (did cutOff calls) ≡ shortFrame ++ (f ++ v) → (ps : List Piece)
+    → Divides (link linkLimit) (pendingBy linkLimit cutOff ++ takenBy (did cutOff calls)) ps
+    → ¬ EndsAt ps (length (pendingBy linkLimit cutOff ++ (shortFrame ++ f))) f
+missed calls h g f c v e ps d = rw append-nil at (lost .unfound f c v ps (rw append-nil (rw e at d)))
+
 pub too-soon : TooSoon fresh
 unfolding framed
 too-soon = record {
   reached = reached;
-  sooner = refl;
+  at-53 = refl;
   lost = lost;
+  unfound = missed;
   undelivered = silent;
   enough = λ calls h go g f c l x e ps d.
       from-any cutOff cut-off-valid .recovers calls h go (g ∷ []) (c, tt) (omega (arith, ap length (append-nil g))) f x

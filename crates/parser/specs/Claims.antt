@@ -24,7 +24,7 @@ use Rattle.wire.specs.Family.{framed}
 use Rattle.wire.specs.declared.Kind.the-variants.{Report}
 use Rattle.stream.specs.Length.{linkLimit}
 use Rattle.framing.specs.Piece.{Piece}
-use Rattle.framing.specs.Division.{Division}
+use Rattle.framing.specs.Division.{Division, EndsAt}
 use Rattle.framing.specs.Tally.{sum, inFrames}
 use Rattle.engine.specs.Calls.{Call, ByteCall, Goes, feeds, Did, sliced, takenBy}
 use Rattle.engine.specs.Engine.{Engine, history, final}
@@ -32,7 +32,7 @@ use Rattle.engine.specs.Fulfilled.{deliveries, Fulfilled, Same}
 use Rattle.stream.specs.Open.{Open, Whole}
 use Rattle.stream.specs.Deliver.{Answer, nothing, Counter}
 use Rattle.stream.specs.Protocol.{ld2410}
-use Rattle.stream.specs.Recovery.{Clean, Recovered, Recovers, Lost}
+use Rattle.stream.specs.Recovery.{Clean, Recovered, Recovers, Regains, Lost}
 use Rattle.scan.specs.Scan.{at}
 use Rattle.scan.specs.Stands.{OutOfRange, pendingOf}
 use Rattle.scan.specs.declared.State.the-variants.{Data}
@@ -79,6 +79,8 @@ pub record FromAny (x : Parser) : Type 0 where
       → y .stats ≡ left x calls .stats → did x (calls ++ more) ≡ did x calls ++ did y more
   -- Item 5 of document 02: "Suppose the parser is in any state"
   pub recovers : Recovers linkLimit (engine linkLimit) (pendingBy linkLimit x) x
+  -- so all that are sent 54 or more bytes later are delivered, those that decode
+  pub regains : Regains linkLimit (engine linkLimit) x
 
 -- Its other part: "Show too that 53 is not enough." A parser and a frame, as values.
 abbrev pub cutOff : Parser
@@ -90,10 +92,15 @@ shortFrame = framed Report (replicate 43 0)
 pub record TooSoon (x : Parser) : Type 0 where
   -- the parser is reached by bytes
   pub reached : left x (feeds (0xF4 ∷ 0xF3 ∷ 0xF2 ∷ 0xF1 ∷ 0x36 ∷ 0x00 ∷ [])) ≡ cutOff
-  -- the next frame begins 53 bytes later, and is not found
-  pub sooner : length shortFrame ≡ 53
+  -- the next frame begins 53 bytes later, and is lost
+  pub at-53 : length shortFrame ≡ 53
   pub lost : Lost linkLimit (pendingBy linkLimit cutOff) (shortFrame ∷ [])
-  -- whichever it is, and whatever calls take the two, nothing is delivered
+  -- whichever it is, and whatever calls take the two and more, it is not found
+  pub unfound : (calls : List Call) → Every ByteCall calls → Every Goes calls → (f : List ℕ) → Clean linkLimit f
+      → (v : List ℕ) → takenBy (did cutOff calls) ≡ shortFrame ++ (f ++ v) → (ps : List Piece)
+      → Division (Open linkLimit) (Whole linkLimit) (pendingBy linkLimit cutOff ++ takenBy (did cutOff calls)) ps
+      → ¬ EndsAt ps (length (pendingBy linkLimit cutOff ++ (shortFrame ++ f))) f
+  -- and where calls take just the two, nothing is delivered
   pub undelivered : (calls : List Call) → Every ByteCall calls → Every Goes calls → (f : List ℕ) → Clean linkLimit f
       → takenBy (did cutOff calls) ≡ shortFrame ++ f → deliveries (ld2410 linkLimit .delivers) (did cutOff calls) ≡ []
   -- one byte more is: a clean frame after one of 54 bytes is found, and delivered if it decodes

@@ -45,7 +45,7 @@ impl Parser {
         ensures fulfilled { λ r. ⌜ FromHere r ⌝ }
         ensures accounted { λ r. ⌜ Accounted r ⌝ }
         ensures determined { λ r. ⌜ Determined [] r ⌝ }
-        ensures sooner { λ r. ⌜ TooSoon r ⌝ }
+        ensures too_soon { λ r. ⌜ TooSoon r ⌝ }
     {
         Parser {
             buf: [0; MAX_FRAME],

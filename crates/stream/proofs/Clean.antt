@@ -1,5 +1,5 @@
 -- Clean frames: the first byte begins a header, the second makes no length with it, and the others are quiet.
---   Quiet u   u is plain bytes, and here and there any byte with one below 3 behind it
+--   Quiet u   u is plain bytes, and here and there any byte with one below 3 after it
 use mathlib.Core.Path.{_≡_, refl, _∙_}
 use mathlib.Core.List.{List, [], _∷_, _++_, append-nil}
 use Prim.Native.Nat.{ℕ, zero, suc, _≤_, _<_}
@@ -55,10 +55,10 @@ module _ (limit : ℕ) (f : List ℕ) (x : Clean limit f) where
   body = others kind ++ (x .0 .lo ∷ x .0 .hi ∷ (x .0 .held ++ tail kind))
 
   -- All but the first byte.
-  abbrev pub behind : List ℕ
-  behind = second kind ∷ body
+  abbrev pub afterFirst : List ℕ
+  afterFirst = second kind ∷ body
 
-  pub spelled : f ≡ first kind ∷ behind
+  pub spelled : f ≡ first kind ∷ afterFirst
   spelled = x .0 .spelled ∙ header-split kind (x .0 .lo ∷ x .0 .hi ∷ (x .0 .held ++ tail kind))
 
   -- From 244 on the first length byte can itself be F4 or FD; the second is below 3.
@@ -69,5 +69,5 @@ module _ (limit : ℕ) (f : List ℕ) (x : Clean limit f) where
       quiet-all (others kind) _ (others-plain kind)
       (quiet-pair high (quiet-all (x .0 .held) (tail kind) (x .1) (rw append-nil at tail-quiet)))
 
-  pub behind-quiet : limit ≤ 512 → Quiet behind
-  behind-quiet small = quiet-plain (second-plain kind) (body-quiet small)
+  pub after-first-quiet : limit ≤ 512 → Quiet afterFirst
+  after-first-quiet small = quiet-plain (second-plain kind) (body-quiet small)

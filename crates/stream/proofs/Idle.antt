@@ -1,6 +1,6 @@
 -- Pending strings that await nothing, or a tail: a plain byte leaves another such, and the first byte of a header is
 -- all that is pending after it.
-use mathlib.Core.Path.{_≡_, refl, sym, _∙_, ap}
+use mathlib.Core.Path.{_≡_, sym, _∙_, ap}
 use mathlib.Core.Logic.{_⊎_, inl, inr, ⊎-elim}
 use mathlib.Core.List.{List, [], _∷_, _++_}
 use mathlib.Core.Bool.{false, not, _&&_}
@@ -25,7 +25,7 @@ use Rattle.stream.specs.Length.{InRange}
 use Rattle.stream.specs.Open.{Open, Whole}
 use Rattle.stream.specs.Recovery.{Plain}
 use Rattle.stream.proofs.Opens.{opens-complete}
-use Rattle.stream.proofs.Steps.{start-opens, start-not-whole, header-opens}
+use Rattle.stream.proofs.Steps.{first-opens, start-not-whole, header-opens}
 use Rattle.stream.proofs.Link.{link, is-open, not-open, not-whole}
 use Rattle.stream.proofs.Begins.{stray-bytes}
 use Rattle.stream.proofs.Traps.{tail-spelled, tail-goes-on}
@@ -45,7 +45,7 @@ plain-or-first b = go (ℕ-discrete b 0xF4) (ℕ-discrete b 0xFD)
     go (no n) (yes e) = inr (Command, e)
     go (no n) (no m) = inl (n, m)
 
--- The bytes of a header behind its first, and those of a tail, are plain.
+-- The bytes of a header after its first, and those of a tail, are plain.
 literal : (b : ℕ) → T (not (eqb b 0xF4) && not (eqb b 0xFD)) → Plain b
 literal b h = ((λ e. rw e at h), (λ e. rw e at h))
 
@@ -93,10 +93,7 @@ module _ (limit : ℕ) where
   Ready p = (j : Kind) → step (link limit) p (first j) .pending ≡ first j ∷ []
 
   pub first-waits : (j : Kind) → Waits (link limit) (first j ∷ [])
-  first-waits Report =
-      (is-open limit _ (start-opens limit 0xF4 Report refl), not-whole limit _ (start-not-whole limit 0xF4))
-  first-waits Command =
-      (is-open limit _ (start-opens limit 0xFD Command refl), not-whole limit _ (start-not-whole limit 0xFD))
+  first-waits j = (is-open limit _ (first-opens limit j), not-whole limit _ (start-not-whole limit (first j)))
 
   pub ready-if : (p : List ℕ) → ((j : Kind) → ¬ Open limit (p ++ (first j ∷ []))) → Ready p
   ready-if p n j = starts-over (link limit) p (first j) (first-waits j) (n j)

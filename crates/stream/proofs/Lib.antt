@@ -31,5 +31,7 @@ pub mod Clean
 pub mod Owing
 -- Clean frames are found and delivered.
 pub mod Recovery
+-- So all that are sent late enough are.
+pub mod Regained
 -- One byte less is not enough.
 pub mod Sooner

@@ -27,7 +27,7 @@ use Rattle.stream.proofs.Idle as Idle
 use Rattle.stream.proofs.Idle.{second, second-plain}
 use Rattle.stream.proofs.Idle.{Idle, Ready, first, idle-ready, header-ready, ready-if, plain-strays, whole-as}
 use Rattle.stream.proofs.Clean.{Quiet, quiet-drop, quiet-idle, second-high}
-use Rattle.stream.proofs.Clean.{kind, body, behind, spelled, body-quiet, behind-quiet}
+use Rattle.stream.proofs.Clean.{kind, body, afterFirst, spelled, body-quiet, after-first-quiet}
 
 first-high : (k : Kind) → 2 < first k
 first-high Report = omega arith
@@ -110,9 +110,9 @@ module _ (limit : ℕ) (small : limit ≤ 512) where
 
     -- A string that is ready: the frame is read from its first byte on.
     first-on : (q : List ℕ) → Ready limit q
-        → rest (link limit) q f ≡ rest (link limit) (first k ∷ []) (behind limit f x)
+        → rest (link limit) q f ≡ rest (link limit) (first k ∷ []) (afterFirst limit f x)
     first-on q h = ap (rest (link limit) q) (spelled limit f x)
-        ∙ ap (λ (p : List ℕ). rest (link limit) p (behind limit f x)) (h k)
+        ∙ ap (λ (p : List ℕ). rest (link limit) p (afterFirst limit f x)) (h k)
 
     ready-frame : (q : List ℕ) → Ready limit q → rest (link limit) q f ≡ []
     ready-frame q h =
@@ -154,7 +154,7 @@ module _ (limit : ℕ) (small : limit ≤ 512) where
           let y : Idle limit (rest (link limit) p u) =
           Idle.in-tail j lo hi (d ++ u) 0 i all (omega arith) (taken u (omega arith) ∙ rw append-nil) in
           let q : Quiet (drop (suc r) f) =
-          rw (spelled limit f x) (quiet-drop r (behind-quiet limit f x small)) in
+          rw (spelled limit f x) (quiet-drop r (after-first-quiet limit f x small)) in
           subst (λ (g : List ℕ). Idle limit (rest (link limit) p g)) (take-append-drop (suc r) f)
           (rw (rest-append (link limit) p u (drop (suc r) f)) (quiet-idle limit q (rest (link limit) p u) y))
 

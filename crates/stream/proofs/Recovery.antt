@@ -8,11 +8,11 @@ use lib.ListN.{length, length-append}
 use Rattle.wire.specs.Bytes.{Every}
 use Rattle.framing.proofs.Framing.{Divides}
 use Rattle.framing.specs.Piece.{Piece, whole}
-use Rattle.framing.specs.Division.{EndsAt, is-whole}
+use Rattle.framing.specs.Division.{EndsAt}
 use Rattle.framing.proofs.Division.{last-place}
 use Rattle.framing.proofs.Scanner.{Step, step, closed, rest}
 use Rattle.framing.proofs.View.{nothing-waits, rest-waits, step-on}
-use Rattle.framing.proofs.Scanned.{from, from-append, scanner-sound, scanner-complete}
+use Rattle.framing.proofs.Scanned.{from, from-append, reads, scanner-sound, scanner-complete}
 use Rattle.framing.proofs.Rest.{rest-append}
 use Rattle.engine.specs.Calls.{Call, ByteCall, Goes, takenBy}
 use Rattle.engine.specs.Engine.{Engine, history}
@@ -25,7 +25,7 @@ use Rattle.stream.specs.Recovery.{Clean, joined, Recovers}
 use Rattle.stream.proofs.Link.{link}
 use Rattle.stream.proofs.Decoding.{decoding, counting}
 use Rattle.stream.proofs.Idle.{Ready, first, first-waits}
-use Rattle.stream.proofs.Clean.{kind, behind, spelled}
+use Rattle.stream.proofs.Clean.{kind, afterFirst, spelled}
 use Rattle.stream.proofs.Owing.{frames-ready}
 
 module _ (limit : ℕ) (f : List ℕ) (x : Clean limit f) where
@@ -33,20 +33,18 @@ module _ (limit : ℕ) (f : List ℕ) (x : Clean limit f) where
   start = first (kind limit f x)
 
   -- After a string that is ready the frame is a whole piece, whatever follows it.
-  alone : (v : List ℕ) → from (link limit) (start ∷ []) (behind limit f x ++ v) ≡ whole f ∷ from (link limit) [] v
+  alone : (v : List ℕ) → from (link limit) (start ∷ []) (afterFirst limit f x ++ v) ≡ whole f ∷ from (link limit) [] v
   alone v =
-      let d : Divides (link limit) (f ++ v) (whole f ∷ from (link limit) [] v) =
-      is-whole (x .0) (scanner-sound (link limit) [] v (nothing-waits (link limit))) in
       let one = step-on (link limit) [] start (first-waits limit (kind limit f x)) in
-      sym (scanner-complete (link limit) d
+      sym (sym (reads (link limit) f v (x .0))
       ∙ ap (λ (g : List ℕ). from (link limit) [] (g ++ v)) (spelled limit f x)
-      ∙ ap (λ (r : Step). r .closed ++ from (link limit) (r .pending) (behind limit f x ++ v)) one)
+      ∙ ap (λ (r : Step). r .closed ++ from (link limit) (r .pending) (afterFirst limit f x ++ v)) one)
 
   ready-found : (v q : List ℕ) → Ready limit q → from (link limit) q (f ++ v)
       ≡ step (link limit) q start .closed ++ (whole f ∷ from (link limit) [] v)
   ready-found v q h =
       ap (λ (g : List ℕ). from (link limit) q (g ++ v)) (spelled limit f x)
-      ∙ ap (λ (p : List ℕ). step (link limit) q start .closed ++ from (link limit) p (behind limit f x ++ v))
+      ∙ ap (λ (p : List ℕ). step (link limit) q start .closed ++ from (link limit) p (afterFirst limit f x ++ v))
       (h (kind limit f x))
       ∙ ap (λ (l : List Piece). step (link limit) q start .closed ++ l) (alone v)
 
@@ -101,8 +99,8 @@ module _ (limit : ℕ) (f : List ℕ) (x : Clean limit f) where
           → takenBy (history E s calls) ≡ t ++ (f ++ v)
           → DeliveredBy (ld2410 limit) (history E s calls) (t ++ f) (found .before) f (found .after)
       delivered E s fulfils calls bytes goes e =
-          delivered-by (link limit) decoding counting E p s fulfils calls bytes goes (t ++ f) v
-          (e ∙ sym (append-assoc t f v)) before f (from (link limit) [] v) front (rw (append-assoc t f v) (divides v))
+          delivered-by (link limit) decoding counting E p s fulfils calls bytes goes
+          (record { front = front; all = rw (append-assoc t f v) (divides v) }) (e ∙ sym (append-assoc t f v))
           (omega (arith, length-append t f, late, x .0 .in-range .0, x .0 .in-range .1))
 
 pub recovers : (limit : ℕ) → limit ≤ 512 → {S : Type 0} (E : Engine S Answer Counter) (p : List ℕ) (s : S)

@@ -7,9 +7,10 @@ use native.Mathlib.Omega.{arith}
 use lib.ListN.{length, replicate, length-append, length-replicate}
 use Rattle.wire.specs.Bytes.{Every}
 use Rattle.wire.specs.Number.{little, leBytes}
-use Rattle.wire.specs.Family.{header, tail, framed}
+use Rattle.wire.specs.Family.{header, framed}
 use Rattle.wire.specs.declared.Kind.{Kind}
 use Rattle.wire.specs.declared.Kind.the-variants.{Report, Command}
+use Rattle.wire.proofs.Framed.{framed-length}
 use Rattle.framing.specs.Piece.{Piece, broken, whole, bytes, spelled}
 use Rattle.framing.specs.Division.{EndsAt}
 use Rattle.framing.proofs.Framing.{Waits, Divides}
@@ -23,11 +24,11 @@ use Rattle.stream.specs.Recovery.{Plain, Clean, Lost}
 use Rattle.stream.proofs.Steps.{data-not-whole}
 use Rattle.stream.proofs.Link.{link, not-whole}
 use Rattle.stream.proofs.Traps.{broken-tail}
-use Rattle.stream.proofs.Idle.{first, first-waits, plain-or-first, plain-strays, small-plain, second-apart}
-use Rattle.stream.proofs.Idle.{second, whole-as}
-use Rattle.stream.proofs.Clean.{Quiet, quiet-end, quiet-plain, quiet-pair, kind, body}
-use Rattle.stream.proofs.Clean.{behind-quiet}
+use Rattle.stream.proofs.Idle.{first, second, first-waits, plain-or-first, plain-strays, small-plain}
+use Rattle.stream.proofs.Idle.{second-apart}
+use Rattle.stream.proofs.Clean.{Quiet, quiet-end, quiet-plain, quiet-pair, kind, body, after-first-quiet}
 use Rattle.stream.proofs.Clean as Clean
+use Rattle.stream.proofs.Regained.{sendable-clean}
 
 -- No frame ends where one would that begins within the first piece.
 first-piece : (s f : List ℕ) (ps qs : List Piece) (n : ℕ) → ps ≡ broken s ∷ qs → 0 < n → n < length s
@@ -109,23 +110,13 @@ module _ (limit : ℕ) (large : 13 ≤ limit) (small : limit ≤ 512) where
   )
 
   short-clean : Clean limit short
-  unfolding framed
   short-clean =
-      let n = limit - 11 in
-      let z : length zeros ≡ n = length-replicate {A = ℕ} n 0 in
-      let l : little (leBytes 2 (length zeros)) ≡ length zeros = omega (arith, z) in (
-        whole-as limit Report (length zeros % 256) (length zeros / 256 % 256) zeros
-            (omega (arith, l, z), omega (arith, l, z)) (sym l) refl,
-        zeros-plain n,
-      )
-
-  framed-length : (d : List ℕ) → length (framed Report d) ≡ length d + 10
-  unfolding framed
-  framed-length d = omega (arith, length-append d (tail Report))
+      let z : length zeros ≡ limit - 11 = length-replicate {A = ℕ} (limit - 11) 0 in
+      sendable-clean limit small (Report, zeros) ((omega arith, omega arith), zeros-plain (limit - 11))
 
   short-length : suc (length (short ++ [])) ≡ limit
   short-length =
-      omega (arith, ap length (append-nil short), framed-length zeros, length-replicate {A = ℕ} (limit - 11) 0)
+      omega (arith, ap length (append-nil short), framed-length Report zeros, length-replicate {A = ℕ} (limit - 11) 0)
 
   -- What came before the next frame's second byte is one broken start.
   module _ (f : List ℕ) (x : Clean limit f) (v : List ℕ) where
@@ -167,14 +158,14 @@ module _ (limit : ℕ) (large : 13 ≤ limit) (small : limit ≤ 512) where
       let e : f ++ [] ≡ f = append-nil f in
       ap answered (division-unique (link limit) (rw (← e) at d) (divided f x []))
       ∙ ap (λ (u : List ℕ). answered (from (link limit) [] (second (kind limit f x) ∷ u)))
-      (append-nil (body limit f x)) ∙ silent limit (behind-quiet limit f x small)
+      (append-nil (body limit f x)) ∙ silent limit (after-first-quiet limit f x small)
 
 pub not-sooner : (limit : ℕ) → 13 ≤ limit → limit ≤ 512
     → Lost limit (header Report ++ leBytes 2 limit) (framed Report (replicate (limit - 11) 0) ∷ [])
 not-sooner limit large small = record {
   may-wait = may-wait limit large small;
   clean = (short-clean limit large small, tt);
-  sooner = omega (arith, short-length limit large small);
+  one-less = omega (arith, short-length limit large small);
   unfound = λ f x v ps d. unfound limit large small f x v ps d;
   undelivered = λ f x ps d. undelivered limit large small f x ps d;
 }

@@ -64,7 +64,7 @@ starting-sound b k e = go (eqb b 0xF4) refl (eqb b 0xFD) refl e
 
 module _ (limit : ℕ) where
   -- With nothing before it: a byte begins a frame exactly if it is a header's first, F4 or FD.
-  first-opens : (k : Kind) → opens limit (getD (header k) 0 0 ∷ []) ≡ true
+  pub first-opens : (k : Kind) → opens limit (getD (header k) 0 0 ∷ []) ≡ true
   unfolding opens reads
   first-opens Report = refl
   first-opens Command = refl

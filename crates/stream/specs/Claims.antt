@@ -23,7 +23,7 @@ use Rattle.stream.specs.Length.{InRange}
 use Rattle.stream.specs.Open.{Open, Whole}
 use Rattle.stream.specs.Deliver.{Answer, decodes, payloadOf, delivered, Counter, adds}
 use Rattle.stream.specs.Protocol.{ld2410}
-use Rattle.stream.specs.Recovery.{Recovers, Lost}
+use Rattle.stream.specs.Recovery.{Recovers, Regains, Lost}
 
 -- A whole frame of bytes is what framing its data gives.
 unfoldable pub WholeFramed : Type 0
@@ -117,8 +117,17 @@ unfoldable pub AnyRecovers : Type 0
 AnyRecovers = (limit : ℕ) → limit ≤ 512 → (E : Engine (List ℕ) Answer Counter) (p s : List ℕ)
     → ((calls : List Call) → Every ByteCall calls → Fulfilled (ld2410 limit) E p s calls) → Recovers limit E p s
 
+-- So it delivers all that are sent so late, those that decode.
+unfoldable pub AnyRegains : Type 0
+AnyRegains = (limit : ℕ) → limit ≤ 512 → (E : Engine (List ℕ) Answer Counter) (p s : List ℕ)
+    → ((calls : List Call) → Every ByteCall calls → Fulfilled (ld2410 limit) E p s calls) → Regains limit E s
+
 -- One byte less is not enough: a report's header and the length `limit` are pending, and then comes a report whose
 -- data are zeros. Below 13 no frame is so short.
 unfoldable pub NotSooner : Type 0
 NotSooner = (limit : ℕ) → 13 ≤ limit → limit ≤ 512
     → Lost limit (header Report ++ leBytes 2 limit) (framed Report (replicate (limit - 11) 0) ∷ [])
+
+-- From 244 on a byte of the length can itself begin a header: 244 is F4 00.
+unfoldable pub NotSoonerAt244 : Type 0
+NotSoonerAt244 = Lost 244 (header Report ++ (0xF4 ∷ 0x00 ∷ [])) (framed Report (replicate 233 0) ∷ [])

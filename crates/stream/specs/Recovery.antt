@@ -5,20 +5,26 @@
 --   Recovered             a frame after others is found, and delivered if it decodes
 --   Recovers limit E p s  so is, from the state s of the engine E, in which p is pending, each clean frame that begins
 --                         `limit` or more bytes later
+--   Sendable limit x      x, a family and data, may be sent as such a frame; frameBytes x, its frame
+--   backToBack xs         the frames of xs, one after another
+--   Regains limit E s     so all that are sent `limit` or more bytes later are delivered, those that decode
 --   Lost limit p early    after p and the frames `early`, which are one byte shorter than `limit`, the next clean frame
 --                         is neither found nor delivered
 use mathlib.Core.Path.{_≡_}
 use mathlib.Core.Logic.{_≢_}
-use mathlib.Core.List.{List, [], _∷_, _++_}
+use mathlib.Core.List.{List, [], _∷_, _++_, map}
 use Prim.Native.Nat.{ℕ, suc, _≤_}
 use lib.ListN.{length}
 use Rattle.wire.specs.Bytes.{Every}
-use Rattle.framing.specs.Piece.{Piece}
+use Rattle.wire.specs.Family.{framed}
+use Rattle.wire.specs.declared.Kind.{Kind}
+use Rattle.framing.specs.Piece.{Piece, whole}
 use Rattle.framing.specs.Division.{Division, EndsAt}
 use Rattle.engine.specs.Calls.{Call, ByteCall, Goes, Did, takenBy}
 use Rattle.engine.specs.Engine.{Engine, history}
-use Rattle.engine.specs.Fulfilled.{answers}
+use Rattle.engine.specs.Fulfilled.{deliveries, answers}
 use Rattle.engine.specs.Delivered.{DeliveredBy}
+use Rattle.stream.specs.Length.{InRange}
 use Rattle.stream.specs.Open.{Open, Whole}
 use Rattle.stream.specs.Deliver.{Answer, decodes, delivered, Counter}
 use Rattle.stream.specs.Protocol.{ld2410}
@@ -54,12 +60,32 @@ Recovers limit E p s = (calls : List Call) → Every ByteCall calls → Every Go
     → (ps : List Piece) → Division (Open limit) (Whole limit) (p ++ takenBy (history E s calls)) ps
     → Recovered limit (history E s calls) p early f v ps
 
+-- What follows for who sends, by families and data alone. "lengths 2 to 54, none with F4 or FD among its data bytes"
+abbrev pub Sendable : ℕ → Kind × List ℕ → Type 0
+Sendable limit x = InRange limit (length (x .1)) × Every (λ b. (b ≢ 0xF4) × (b ≢ 0xFD)) (x .1)
+
+abbrev pub frameBytes : Kind × List ℕ → List ℕ
+frameBytes x = framed (x .0) (x .1)
+
+abbrev pub backToBack : List (Kind × List ℕ) → List ℕ
+backToBack [] = []
+backToBack (x ∷ xs) = frameBytes x ++ backToBack xs
+
+-- Of what the frames `early` deliver nothing is said. After it come those of `late` that decode, each once, in order,
+-- and nothing else.
+abbrev pub Regains : {S : Type 0} → ℕ → Engine S Answer Counter → S → Type 0
+Regains limit E s = (calls : List Call) → Every ByteCall calls → Every Goes calls
+    → (early late : List (Kind × List ℕ)) → Every (Sendable limit) early → Every (Sendable limit) late
+    → limit ≤ length (backToBack early) → takenBy (history E s calls) ≡ backToBack early ++ backToBack late
+    → (before : List Answer) × (deliveries (ld2410 limit .delivers) (history E s calls)
+    ≡ before ++ answers decodes delivered (map (λ (x : Kind × List ℕ). whole (frameBytes x)) late))
+
 -- "Show too that 53 is not enough."
 pub record Lost (limit : ℕ) (p : List ℕ) (early : List (List ℕ)) : Type 0 where
   -- p may be pending, and the frames are such as above
   pub may-wait : Open limit p × (¬ Whole limit p)
   pub clean : Every (Clean limit) early
-  pub sooner : suc (length (joined early)) ≡ limit
+  pub one-less : suc (length (joined early)) ≡ limit
   -- whichever clean frame is next, and whatever follows it, it is no whole piece in its place
   pub unfound : (f : List ℕ) → Clean limit f → (v : List ℕ) (ps : List Piece)
       → Division (Open limit) (Whole limit) (p ++ (joined early ++ (f ++ v))) ps

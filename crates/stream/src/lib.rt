@@ -9,7 +9,7 @@ ghost use Rattle.stream.specs.Claims.{DividesOnce, DivisionSpelled, Divi
 ghost use Rattle.stream.specs.Claims.{DivisionAppend, TotalAppend, EndsForGood, ResyncsBound, ResyncsReached};
 ghost use Rattle.stream.specs.Claims.{BadLength, BrokenTail};
 ghost use Rattle.stream.specs.Claims.{DecodesWhole, DeliversWhole};
-ghost use Rattle.stream.specs.Claims.{AnyRecovers, NotSooner};
+ghost use Rattle.stream.specs.Claims.{AnyRecovers, AnyRegains, NotSooner, NotSoonerAt244};
 
 // A whole frame is what framing its data gives; a stray byte is neither of two.
 fn framing_claims()
@@ -46,5 +46,7 @@ fn delivery_claims()
 // How soon the stream is read right again, and that one byte less is not enough.
 fn recovery_claims()
     ensures recovers { λ _. ⌜ AnyRecovers ⌝ }
+    ensures regains { λ _. ⌜ AnyRegains ⌝ }
     ensures not_sooner { λ _. ⌜ NotSooner ⌝ }
+    ensures at_244 { λ _. ⌜ NotSoonerAt244 ⌝ }
 {}

@@ -13,6 +13,10 @@ pub every-append : {A : Type 0} (P : A → Type 0) (l m : List A) → Every P l 
 every-append P [] m h k = k
 every-append P (a ∷ l) m h k = (h .0, every-append P l m (h .1) k)
 
+pub every-split : {A : Type 0} (P : A → Type 0) (l m : List A) → Every P (l ++ m) → Every P l × Every P m
+every-split P [] m h = (tt, h)
+every-split P (a ∷ l) m h = let r = every-split P l m (h .1) in ((h .0, r .0), r .1)
+
 -- A list is one of bytes if it has a byte at each place.
 pub bytes-at : (s : List ℕ) → ((i : ℕ) → i < length s → getD s i 0 < 256) → Bytes s
 bytes-at [] h = tt

@@ -1,17 +1,31 @@
--- `stream::recovery_claims` pins what Recovery and Sooner prove. Assumes nothing.
+-- `stream::recovery_claims` pins what Recovery, Regained and Sooner prove. The second claim is proved from the first,
+-- the fourth from the third. Assumes nothing.
 use native.Mathlib.Omega.{arith}
-use Rattle.stream.specs.Claims.{AnyRecovers, NotSooner}
+use Rattle.stream.specs.Claims.{AnyRecovers, AnyRegains, NotSooner, NotSoonerAt244}
 use Rattle.stream.proofs.Recovery.{recovers}
+use Rattle.stream.proofs.Regained.{regains}
 use Rattle.stream.proofs.Sooner.{not-sooner}
 use Rattle.stream.proofs.recovery_claims.Statement.{statement}
 use Rattle.stream.proofs.recovery_claims.Tie as tie
 
+any-recovers : AnyRecovers
+unfolding AnyRecovers
+any-recovers limit small E p s fulfils = recovers limit small E p s fulfils
+
+any-regains : AnyRegains
+unfolding AnyRecovers AnyRegains
+any-regains limit small E p s fulfils = regains limit small E p s (any-recovers limit small E p s fulfils)
+
+any-lost : NotSooner
+unfolding NotSooner
+any-lost limit large small = not-sooner limit large small
+
+lost-at-244 : NotSoonerAt244
+unfolding NotSooner NotSoonerAt244
+lost-at-244 = any-lost 244 (omega arith) (omega arith)
+
 returns : tie.Need-returns
-unfolding AnyRecovers NotSooner
-returns c = (
-  λ limit small E p s fulfils. recovers limit (omega arith) E p s fulfils,
-  λ limit large small. not-sooner limit (omega arith) (omega arith),
-)
+returns c = (any-recovers, (any-regains, (any-lost, lost-at-244)))
 
 pub recovery-claims-spec : {M : Type 1} → statement M
 recovery-claims-spec = tie.close (tie.spec returns)
