@@ -1,13 +1,13 @@
 //! What our program must print, line for line. A script's answer is the model's of the division, since the original's
 //! counters stop where ours go on; a state byte is read by the model's rule, since the original knows no calibration.
-//! All else is the oracle's.
+//! The LD2450's answers are a model's, since the original knows no such module. All else is the oracle's.
 
 use ld2410::access::ORIGINAL_MAX;
 
 use crate::case::{self, Case, Next};
 use crate::line;
 use crate::model::rules::{Rules, RULES};
-use crate::model::streams;
+use crate::model::{ld2450, streams};
 use crate::oracle;
 use crate::oracle::states::States;
 
@@ -26,10 +26,15 @@ pub fn answer(case: Case<'_>, out: &mut Vec<u8>) {
     answer_by(case, &RULES, out);
 }
 
-/// Appends the answer lines of a case by these rules; the oracle answers for a parser that cannot be built.
+/// Appends the answer lines of a case by these rules; the oracle answers for a parser that cannot be built, and for an
+/// argument that is too short.
 pub fn answer_by(case: Case<'_>, rules: &Rules, out: &mut Vec<u8>) {
-    let divided = is_script(case.op) && streams::answer(case, rules, out).is_some();
-    if !divided {
+    let modelled = match case.op {
+        op if is_script(op) => streams::answer(case, rules, out),
+        30..=32 => ld2450::answer(case, &rules.ld2450, out),
+        _ => None,
+    };
+    if modelled.is_none() {
         oracle::answer_by(case, States::By(rules.state), out);
     }
 }

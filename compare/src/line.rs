@@ -13,6 +13,11 @@ impl<'a> Line<'a> {
         push_decimal(self.0, n.into());
     }
 
+    pub fn signed(&mut self, n: i16) {
+        self.0.extend(if n < 0 { &b" -"[..] } else { b" " });
+        push_decimal(self.0, n.unsigned_abs().into());
+    }
+
     pub fn count(&mut self, n: usize) {
         self.number(n as u64);
     }

@@ -1,9 +1,10 @@
 //! Naive models: the frame writers, the command reader and the division of a stream, written from document 01 alone,
-//! the session, from document 02, item 2, and the states, from its item 3.
+//! the session, from document 02, item 2, the states, from its item 3, and the LD2450, from its item 6.
 
 pub mod commands;
 pub mod division;
 pub mod families;
+pub mod ld2450;
 pub mod rules;
 pub mod session;
 pub mod state;

@@ -1,6 +1,7 @@
 //! Wrong variants of the expected answers, each a mistake that an implementation could make, and of the table of
 //! intended differences. The comparison must notice every one of them.
 
+mod ld2450;
 mod parsers;
 mod readers;
 mod sessions;
@@ -20,17 +21,21 @@ const CLOSING: usize = 6;
 
 pub struct Mutant {
     pub op: u8,
-    pub mistake: &'static str,
+    pub mistake: String,
     wrong: Wrong,
 }
 
+type EditNumbers = dyn Fn(&[u8], &mut Vec<u64>);
+type EditLines = dyn Fn(&[u8], &mut Vec<Vec<u64>>);
+type EditArgument = dyn Fn(&mut Vec<u8>);
+
 enum Wrong {
     /// The right answer with the numbers of a line changed, seen beside the argument. Number 0 is the op.
-    Numbers(fn(&[u8], &mut Vec<u64>)),
+    Numbers(Box<EditNumbers>),
     /// The right answer with its lines changed.
-    Lines(fn(&[u8], &mut Vec<Vec<u64>>)),
+    Lines(Box<EditLines>),
     /// The right answer to another argument.
-    Argument(fn(&mut Vec<u8>)),
+    Argument(Box<EditArgument>),
     /// The answer by other rules.
     Rules(Rules),
     /// The right answer, held against the original's by another table of intended differences.
@@ -40,34 +45,32 @@ enum Wrong {
 }
 
 impl Mutant {
-    const fn numbers(op: u8, mistake: &'static str, edit: fn(&[u8], &mut Vec<u64>)) -> Self {
-        let wrong = Wrong::Numbers(edit);
-        Self { op, mistake, wrong }
+    fn new(op: u8, mistake: impl Into<String>, wrong: Wrong) -> Self {
+        Self { op, mistake: mistake.into(), wrong }
     }
 
-    const fn lines(op: u8, mistake: &'static str, edit: fn(&[u8], &mut Vec<Vec<u64>>)) -> Self {
-        let wrong = Wrong::Lines(edit);
-        Self { op, mistake, wrong }
+    fn numbers(op: u8, mistake: impl Into<String>, edit: impl Fn(&[u8], &mut Vec<u64>) + 'static) -> Self {
+        Self::new(op, mistake, Wrong::Numbers(Box::new(edit)))
     }
 
-    const fn argument(op: u8, mistake: &'static str, edit: fn(&mut Vec<u8>)) -> Self {
-        let wrong = Wrong::Argument(edit);
-        Self { op, mistake, wrong }
+    fn lines(op: u8, mistake: impl Into<String>, edit: impl Fn(&[u8], &mut Vec<Vec<u64>>) + 'static) -> Self {
+        Self::new(op, mistake, Wrong::Lines(Box::new(edit)))
     }
 
-    const fn rules(op: u8, mistake: &'static str, rules: Rules) -> Self {
-        let wrong = Wrong::Rules(rules);
-        Self { op, mistake, wrong }
+    fn argument(op: u8, mistake: impl Into<String>, edit: impl Fn(&mut Vec<u8>) + 'static) -> Self {
+        Self::new(op, mistake, Wrong::Argument(Box::new(edit)))
     }
 
-    const fn table(op: u8, mistake: &'static str, table: Vec<Intended>) -> Self {
-        let wrong = Wrong::Table(table);
-        Self { op, mistake, wrong }
+    fn rules(op: u8, mistake: impl Into<String>, rules: Rules) -> Self {
+        Self::new(op, mistake, Wrong::Rules(rules))
     }
 
-    const fn events(op: u8, mistake: &'static str, edit: fn(&Seen<'_>, &mut Vec<u64>)) -> Self {
-        let wrong = Wrong::Events(edit);
-        Self { op, mistake, wrong }
+    fn table(op: u8, mistake: impl Into<String>, table: Vec<Intended>) -> Self {
+        Self::new(op, mistake, Wrong::Table(table))
+    }
+
+    fn events(op: u8, mistake: impl Into<String>, edit: fn(&Seen<'_>, &mut Vec<u64>)) -> Self {
+        Self::new(op, mistake, Wrong::Events(edit))
     }
 
     /// Whether this variant answers a case otherwise than expected; or, a table, is against the right answer.
@@ -112,14 +115,16 @@ pub fn of(op: u8) -> Vec<Mutant> {
     all.extend(parsers::mutants());
     all.extend(tables::mutants());
     all.extend(sessions::mutants());
+    all.extend(ld2450::mutants());
     all.retain(|mutant| mutant.op == op);
     all
 }
 
-/// The numbers of each line; a line without an answer has none.
+/// The numbers of each line, negative ones in two's complement; a line without an answer has none.
 fn numbers_of(answer: &[u8]) -> Vec<Vec<u64>> {
     let text = std::str::from_utf8(answer).expect("an answer is text");
-    let numbers = |line: &str| line.split(' ').map(str::parse).collect::<Result<_, _>>();
+    let number = |text: &str| text.parse().or_else(|_| text.parse().map(i64::cast_unsigned));
+    let numbers = |line: &str| line.split(' ').map(number).collect::<Result<_, _>>();
     text.lines().map(|line| numbers(line).unwrap_or_default()).collect()
 }
 

@@ -17,6 +17,7 @@ options
   --original FILE         the original Rust file
   --ours PROGRAM          our program (default target/bin/replay)
   --station PROGRAM       our program of op 20 (default target/bin/replay_station)
+  --ld2450 PROGRAM        our program of ops 30 to 32 (default target/bin/replay_ld2450)
   --ops 1,2,3             these ops alone (default: all)
   --seed N                seed of the random cases (default 1)
   --scale N               one random case for N at full scale (default 1, the self-check's 100)";

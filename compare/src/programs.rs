@@ -16,13 +16,13 @@ pub struct Program {
     pub cut: &'static [u8],
 }
 
-/// Ops 20 to 32 that are in no table yet belong to later requests.
-pub const PROGRAMS: [Program; 2] = [
+/// Ops 15 to 22 that are in no table yet belong to later requests.
+pub const PROGRAMS: [Program; 3] = [
     Program {
         name: "replay",
         option: "--ours",
         ops: &[1, 2, 3, 4, 5, 6, 7, 8, 9, 10, 11, 12, 13, 14],
-        no_ops: &[0, 15, 16, 17, 18, 19, 20, 255],
+        no_ops: &[0, 15, 16, 17, 18, 19, 20, 30, 255],
         sample: Case { op: 3, argument: &[0xFF, 0x01, 0x00, 0x00] },
         cut: &[1, 2, 0, 0, 0, 3],
     },
@@ -33,6 +33,14 @@ pub const PROGRAMS: [Program; 2] = [
         no_ops: &[1, 0, 6, 10, 14, 19, 22, 30, 255],
         sample: Case { op: 20, argument: &[2] },
         cut: &[20, 2, 0, 0, 0, 2],
+    },
+    Program {
+        name: "replay_ld2450",
+        option: "--ld2450",
+        ops: &[30, 31, 32],
+        no_ops: &[1, 0, 5, 10, 20, 22, 29, 33, 255],
+        sample: Case { op: 30, argument: &[0xAA, 0xFF, 0x03, 0x00] },
+        cut: &[30, 2, 0, 0, 0, 0xAA],
     },
 ];
 

@@ -4,7 +4,7 @@ use super::{accepted, refuse, refused, Mutant};
 use crate::model::families::{ACK_BIT, COMMAND, REPORT};
 
 /// Where a buffer starts in an answer, and a command, a report value or a word in an argument.
-const BUFFER: usize = 3;
+pub const BUFFER: usize = 3;
 pub const VALUE: usize = 3;
 
 pub fn mutants() -> Vec<Mutant> {
@@ -16,7 +16,7 @@ pub fn mutants() -> Vec<Mutant> {
     all
 }
 
-fn buffer_length(argument: &[u8]) -> usize {
+pub fn buffer_length(argument: &[u8]) -> usize {
     u16::from_le_bytes([argument[0], argument[1]]).into()
 }
 

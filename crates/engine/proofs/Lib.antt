@@ -36,3 +36,27 @@ pub mod Feeds
 pub mod Resumed
 -- What every byte fed keeps, bytes fed up to a frame's end keep.
 pub mod Until
+-- A slice call that settles the state first.
+pub mod Still
+-- What a lawful engine's claims are made of.
+pub mod Claimed
+-- Facts of a contract, shown of nothing.
+pub mod Facts
+-- From a walk to a routine.
+pub mod Routines
+-- A field of a plain type.
+pub mod PlainField
+-- The type of a parser that is lent, and such a parser in memory.
+pub mod LentType
+-- Its buffer, lent for a call.
+pub mod LentBuffer
+-- A feed of a parser that is lent: what it is made of, and its contract.
+pub mod LentFeed
+-- Its call and its exit.
+pub mod LentCall
+-- Its walk, which meets the contract.
+pub mod LentWalk
+-- A reset of a parser that is lent: its contract and its call.
+pub mod LentReset
+-- Its walk, which meets the contract.
+pub mod LentResetWalk

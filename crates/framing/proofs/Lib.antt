@@ -26,3 +26,5 @@ pub mod Events
 pub mod Resyncs
 -- Frames of a fixed length.
 pub mod Fixed
+-- Patterns put together of given bytes and of any: what fills them.
+pub mod Pattern

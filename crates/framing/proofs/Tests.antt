@@ -1,4 +1,4 @@
--- Framings that are given by tests, and what two tests say together.
+-- Framings that are given by tests, and what one test and two together say.
 --   Tests        a test for open strings and one for whole frames, with the laws of a framing
 --   framingOf X  the framing whose strings pass the tests X
 use mathlib.Core.Path.{_≡_, refl}
@@ -13,6 +13,11 @@ use Rattle.framing.proofs.Framing.{Laws, Framing}
 abbrev pub T? : (b : Bool) → Dec (T b)
 T? true = yes tt
 T? false = no (λ x. x)
+
+-- What a test decides.
+abbrev pub by-test : {X : Type 0} (b : Bool) → (b ≡ true → X) → (b ≡ false → ¬ X) → Dec X
+by-test true is not = yes (is refl)
+by-test false is not = no (not refl)
 
 -- Two tests pass together where the first holds and the second passes.
 pub T-and : (a b : Bool) → T (a && b) ↔ (a ≡ true) × T b

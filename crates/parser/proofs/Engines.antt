@@ -1,10 +1,11 @@
 -- The parser is a lawful engine of the link's framing, at every largest length below 65,536.
-use mathlib.Core.Path.{_≡_, refl, sym, ap, subst, _∙_}
+use mathlib.Core.Path.{_≡_, refl, sym, subst}
 use mathlib.Core.List.{List, [], _∷_}
 use Prim.Native.Nat.{ℕ, _<_}
 use Rattle.wire.specs.Bytes.{Bytes}
 use Rattle.engine.specs.Engine.{Sliced}
 use Rattle.engine.proofs.Lawful.{feedUntil, Lawful}
+use Rattle.engine.proofs.Still as Still
 use Rattle.engine.proofs.Until.{until-invariant}
 use Rattle.stream.proofs.Link.{link}
 use Rattle.stream.specs.Deliver.{Answer}
@@ -27,25 +28,31 @@ unfolding orReset wellFormed pendingOf
 hunting-pending limit p = refl
 
 module _ (limit : ℕ) (small : limit < 65536) where
-  -- The slice call, as its definition has it, gives back what the bytes do from that parser; and of some bytes,
-  -- from the parser itself.
+  -- The slice call, as its definition has it, gives back what the bytes do from the parser that is settled first.
   slice-still : (p : Parser) (bs : List ℕ) → Valid limit p → Bytes bs
       → engine limit .slice p bs ≡ feedUntil (link limit) decoding (engine limit) (still limit p) bs
   unfolding feedSliceOf sliceMovedOf sliceBufOf
   slice-still p bs v h = until limit small bs h p v
 
+  -- Settling the parser first changes nothing that a feed sees.
+  still-feed : (p : Parser) (b : ℕ) → engine limit .feed (still limit p) b ≡ engine limit .feed p b
+  unfolding feedOf movedOf bufOf
+  still-feed p b = rw (or-reset-twice limit (p .scan))
+
+  still-pending : (p : Parser) → pendingBy limit (still limit p) ≡ pendingBy limit p
+  still-pending p = rw (or-reset-twice limit (p .scan))
+
   pub slice-until : (p : Parser) (b : ℕ) (bs : List ℕ) → Valid limit p → Bytes (b ∷ bs)
       → engine limit .slice p (b ∷ bs) ≡ feedUntil (link limit) decoding (engine limit) p (b ∷ bs)
-  unfolding feedOf movedOf bufOf
-  slice-until p b bs v h = slice-still p (b ∷ bs) v h ∙ rw (or-reset-twice limit (p .scan))
+  slice-until p b bs v h = Still.slice-until (link limit) decoding (engine limit) (Valid limit) (still limit)
+      still-feed still-pending slice-still p b bs v h
 
-  -- So what is pending, told, answered and counted is what the bytes do from the parser itself.
   same-until : {X : Type 0} (get : Sliced Parser Answer → X) (p : Parser) → Valid limit p
       → get (feedUntil (link limit) decoding (engine limit) (still limit p) [])
       ≡ get (feedUntil (link limit) decoding (engine limit) p []) → (bs : List ℕ) → Bytes bs
       → get (engine limit .slice p bs) ≡ get (feedUntil (link limit) decoding (engine limit) p bs)
-  same-until get p v e [] h = ap get (slice-still p [] v h) ∙ e
-  same-until get p v e (b ∷ bs) h = ap get (slice-until p b bs v h)
+  same-until get p v e bs h = Still.same-until (link limit) decoding (engine limit) (Valid limit) (still limit)
+      still-feed still-pending slice-still get p v e bs h
 
   pub lawful : Lawful (link limit) decoding counting (engine limit) (Valid limit)
   unfolding unfinishedOf unfinishedBy
@@ -58,7 +65,7 @@ module _ (limit : ℕ) (small : limit < 65536) where
         (until-invariant (link limit) decoding (engine limit) (Valid limit) (fed-valid limit small)
         (still limit p) bs (record { room = v .room; capped = v .capped }) h);
     slice-pending = λ p bs v h.
-        same-until (λ s. pendingBy limit (s .state)) p v (rw (or-reset-twice limit (p .scan))) bs h;
+        same-until (λ s. pendingBy limit (s .state)) p v (still-pending p) bs h;
     slice-told = λ p bs v h. same-until (λ s. s .told) p v refl bs h;
     slice-answer = λ p bs v h. same-until (λ s. s .answer) p v refl bs h;
     slice-counter = λ p bs v h k. same-until (λ s. counterIn k (s .state .stats)) p v refl bs h;

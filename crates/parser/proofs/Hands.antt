@@ -1,5 +1,5 @@
 -- A feed f by value, which lends a local to a feed g of a parser that is lent, for LocalFeed.antt's walk.
---   Hands F                  what f has beside what g is made of (Feeds.antt): its parameter's MIR type, in which no
+--   Hands F                  what f has beside what g is made of (LentFeed.antt): its parameter's MIR type, in which no
 --                            lifetime of `&mut self` is counted, and the struct that it returns
 --   code k                   f's MIR, k being g's key
 --   value-ended              f's signature
@@ -27,28 +27,28 @@ use denote.Struct.Laws as LL
 use denote.Triple.Clauses.{Ended, Clauses}
 use denote.Triple.Walked.{Stays, stay-dropped}
 use denote.Exit.{yes}
-use Rattle.parser.specs.Claims.{FromAny}
+use Rattle.engine.proofs.PlainField.{Value, type}
+use Rattle.engine.proofs.LentFeed.{Feed, answer-in, final}
 use Rattle.parser.specs.declared.Parser.{Parser}
 use Rattle.parser.proofs.Parser.Laws as T′
-use Rattle.parser.proofs.Memory.{P, val, vals}
-use Rattle.parser.proofs.Feeds.{Feed, final}
+use Rattle.parser.proofs.Memory.{parser-type, P, val, vals}
 
-pub record Hands {m : ℕ} (F : Feed m) : Type 2 where
+pub record Hands {m : ℕ} (F : Feed parser-type m) : Type 2 where
   pub extra-ty : Ty
-  pub extra-typed : (κs : Lfts m) (e : F .extra κs .Denot) → Is (F .extra κs) e (F .extra-val κs e ∷ [])
-      → Holds (hasTy extra-ty (F .extra-val κs e)) × WT (F .extra-val κs e)
+  pub extra-typed : (κs : Lfts m) (e : F .extra .at κs .Denot) → Is (F .extra .at κs) e (F .extra .machine κs e ∷ [])
+      → Holds (hasTy extra-ty (F .extra .machine κs e)) × WT (F .extra .machine κs e)
   pub result : Declared
   pub result-laws : LL.Laws result
   pub result-plain : Plains (fields result)
-  pub make : Parser → F .answer .D → result .D
-  pub made : (p : Parser) (a : F .answer .D) (v : Val) → Is P p (vals p) → Is (row (F .answer)) a (v ∷ [])
+  pub make : Parser → Value (F .answer) → result .D
+  pub made : (p : Parser) (a : Value (F .answer)) (v : Val) → Is P p (vals p) → Is (type (F .answer)) a (v ∷ [])
       → Is (row result) (make p a) (vstruct (vcons (val p) (vcons v vnil)) ∷ [])
 
-module _ {m : ℕ} (F : Feed m) (R : Hands F) where
+module _ {m : ℕ} (F : Feed parser-type m) (R : Hands F) where
   -- e as f has it
   abbrev pub extra : Lfts m → RattleType
   extra κs =
-      let E = F .extra κs in
+      let E = F .extra .at κs in
       record {
         Denot = E .Denot;
         mir = R .extra-ty ∷ [];
@@ -68,7 +68,7 @@ module _ {m : ℕ} (F : Feed m) (R : Hands F) where
         ∷ local T′.mir valueLocal
         ∷ local (R .extra-ty) valueLocal
         ∷ local T′.mir memorySlot
-        ∷ local (layout (shape (F .answer))) valueLocal
+        ∷ local (F .answer .ty) valueLocal
         ∷ local (tyRef erased mut (pointee (P .written))) valueLocal
         ∷ local T′.mir valueLocal
         ∷ [];
@@ -96,11 +96,11 @@ module _ {m : ℕ} (F : Feed m) (R : Hands F) where
   stayed = (stay-dropped (plain (λ _. P)) yes, (stay-dropped (plain extra) yes, tt))
 
   -- what g answers, and the parser that it leaves
-  abbrev pub answered : (κs : Lfts m) → Parser → F .extra κs .Denot → F .answer .D
-  answered κs h e = F .answer-in (F .gives κs h e)
+  abbrev pub answered : (κs : Lfts m) → Parser → F .extra .at κs .Denot → Value (F .answer)
+  answered κs h e = answer-in F (F .gives κs (parser-type .parts h) e)
 
-  abbrev pub left : (κs : Lfts m) → Parser → F .extra κs .Denot → Parser
-  left κs h e = final F (F .gives κs h e) (F .leaves κs h e)
+  abbrev pub left : (κs : Lfts m) → Parser → F .extra .at κs .Denot → Parser
+  left κs h e = final F (F .gives κs (parser-type .parts h) e) (F .leaves κs (parser-type .parts h) e)
 
   module _ {M : Type 1} (𝓤 : URA M) where
     abbrev pub value-clauses : Clauses 𝓤 value-ended
@@ -108,5 +108,5 @@ module _ {m : ℕ} (F : Feed m) (R : Hands F) where
       ghost = Unit {0};
       requires = λ _. emp 𝓤;
       ensures = λ _ r x. sep 𝓤 (fact 𝓤 (r ≡ R .make (left κs (a .0) (a .1 .0)) (answered κs (a .0) (a .1 .0))))
-          (fact 𝓤 (FromAny (a .0)));
+          (fact 𝓤 (F .Claim (a .0)));
     }

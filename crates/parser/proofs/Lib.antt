@@ -10,21 +10,12 @@ pub mod Engines
 pub mod Demand
 -- 53 bytes are not enough.
 pub mod Sooner
--- A parser in memory.
+-- The parser as one that can be lent, and in memory.
 pub mod Memory
 -- What a parser's type says of it, and what follows of demand 3.
 pub mod Known
--- Its buffer, lent for a call.
-pub mod Field
--- Facts of a contract, shown of nothing.
-pub mod Facts
--- From a walk to a routine.
-pub mod Routines
--- A feed of a parser that is lent: what it is made of, and its contract.
+-- The feeds of a parser that is lent.
 pub mod Feeds
--- Its call and its exit, and its walk.
-pub mod LentCall
-pub mod LentFeed
 -- A parser in a local, lent for a call.
 pub mod Local
 -- A feed by value, which lends it: what it is made of, and its walk.

@@ -9,13 +9,11 @@ use ld2410::Parser;
 use ld2410::Span;
 use ld2410::Taken;
 use replay_io::argument::u8_at;
-use replay_io::argument::u16_at;
 use replay_io::line;
 use replay_io::line::Row;
 use replay_io::line::Text;
+use replay_io::script::call_size;
 use wire::min;
-ghost use Prim.Native.Nat.{_≤_};
-ghost use lib.ListN.{length};
 
 // Makes the calls of a script, up to one that is cut short or has no meaning.
 pub fn run(out: &mut Text, taken: usize, op: u8, parser: Parser, script: &[u8]) -> usize {
@@ -33,25 +31,6 @@ pub fn run(out: &mut Text, taken: usize, op: u8, parser: Parser, script: &[u8]) 
         now = fed.parser;
         at = end;
     }
-}
-
-// Bytes of the first call of a script; 0 where there is none, or not all of it.
-fn call_size(script: &[u8]) -> usize
-    ensures inside { λ r. ⌜ r ≤ length (now (script .entry)) ⌝ }
-{
-    if script.len() == 0 {
-        return 0;
-    }
-    let size = match u8_at(script, 0) {
-        0 => 2,
-        1 => 3 + u16_at(script, 1) as usize,
-        2 => 1,
-        _ => 0,
-    };
-    if script.len() < size {
-        return 0;
-    }
-    size
 }
 
 // Makes the call that these bytes are.

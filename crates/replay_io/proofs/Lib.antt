@@ -9,5 +9,7 @@ pub mod Puts
 pub mod Decimals
 -- Numbers put one after the other.
 pub mod Numbers
+-- Numbers with a sign.
+pub mod Signs
 -- Cases in a buffer.
 pub mod Cases

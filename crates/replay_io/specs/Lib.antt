@@ -1,4 +1,5 @@
 pub mod Argument
 pub mod Command
+pub mod Script
 pub mod Line
 pub mod Case

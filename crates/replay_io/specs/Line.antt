@@ -4,6 +4,7 @@
 --   putByte g b     what putting the byte b leaves; putAll g s, the bytes s one after the other
 --   decimalOf v     the decimal digits of a number of 64 bits, which has at most 20
 --   numbersOf vs    "decimal numbers, one space between": a space and its digits, for each of the numbers vs
+--   signedText z    a space and the digits of a number that may be negative: "A number below 0 has a minus sign."
 --   noneText        " none", after the op: "prints `op` and `none`"
 --   lineFeed        "a line feed after"
 --   closing f       the line that ends the answers: "Input that ends inside a case prints `short` and stops; an `n`
@@ -12,6 +13,7 @@ use mathlib.Core.List.{List, [], _∷_, _++_}
 use mathlib.Core.Bool.{cond}
 use Prim.Native.Nat.{ℕ, zero, suc, _+_, _/_, _%_}
 use lib.Dec.{ltb}
+use lib.IntN.{ℤ, pos, negsuc}
 use lib.ListN.{set}
 use Rattle.io.specs.Digits.{glyph}
 use Rattle.replay_io.specs.declared.input.Found.{Found}
@@ -41,6 +43,10 @@ decimalOf v = spelled 20 v
 unfoldable pub numbersOf : List ℕ → List ℕ
 numbersOf [] = []
 numbersOf (v ∷ vs) = 32 ∷ (decimalOf v ++ numbersOf vs)
+
+unfoldable pub signedText : ℤ → List ℕ
+signedText (pos n) = numbersOf (n ∷ [])
+signedText (negsuc n) = 32 ∷ 45 ∷ decimalOf (suc n)
 
 abbrev pub noneText : List ℕ
 noneText = 32 ∷ 110 ∷ 111 ∷ 110 ∷ 101 ∷ []

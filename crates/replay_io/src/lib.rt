@@ -4,3 +4,4 @@ pub mod argument;
 pub mod commands;
 pub mod input;
 pub mod line;
+pub mod script;

@@ -7,9 +7,10 @@ use libc::STDOUT_FILENO;
 use wire::min;
 ghost use mathlib.Core.Path.{_≡_};
 ghost use mathlib.Core.List.{[], _∷_};
+ghost use lib.IntN.{natAbs};
 ghost use lib.ListN.{take};
 ghost use Rattle.replay_io.specs.Line.{gathered, place, putByte, putAll};
-ghost use Rattle.replay_io.specs.Line.{decimalOf, numbersOf, noneText, lineFeed, closing};
+ghost use Rattle.replay_io.specs.Line.{decimalOf, numbersOf, signedText, noneText, lineFeed, closing};
 
 // Bytes of the buffer.
 pub const SIZE: usize = 65_536;
@@ -82,6 +83,28 @@ pub fn number(out: &mut Text, taken: usize, value: u64) -> usize
 {
     let n = put(out, taken, b' ');
     decimal(out, n, value)
+}
+
+// How far a number is from 0. One below 0 is widened first, since 32,768 is no number of sixteen bits with a sign.
+fn magnitude(value: i16) -> u64
+    ensures told { λ r. ⌜ r ≡ natAbs value ⌝ }
+{
+    if value < 0 {
+        return (0 - (value as i32)) as u64;
+    }
+    value as u64
+}
+
+// Puts a number after a space, with a minus sign where it is below 0.
+pub fn signed(out: &mut Text, taken: usize, value: i16) -> usize
+    ensures put { λ r. ⌜ gathered (now (out .exit)) r
+        ≡ putAll (gathered (now (out .entry)) taken) (signedText value) ⌝ }
+{
+    if value < 0 {
+        let n = literal(out, taken, b" -");
+        return decimal(out, n, magnitude(value));
+    }
+    number(out, taken, magnitude(value))
 }
 
 // Puts the first numbers of a row; all of them where it has no more.

@@ -3,7 +3,7 @@
 --   link limit   the framing, with its laws
 use mathlib.Core.Path.{_≡_, refl, sym, ap, _∙_}
 use mathlib.Core.List.{List, [], _∷_, _++_, append-nil, append-assoc}
-use mathlib.Core.Bool.{Bool, true, false}
+use mathlib.Core.Bool.{true, false}
 use Prim.Native.Nat.{ℕ, _+_, _≤_}
 use native.Mathlib.Omega.{arith}
 use lib.ListN.{length, length-append}
@@ -14,6 +14,7 @@ use Rattle.wire.specs.declared.Kind.{Kind}
 use Rattle.wire.specs.declared.Kind.the-variants.{Report, Command}
 use Rattle.frame.specs.Envelope.{announced}
 use Rattle.framing.proofs.Framing.{Framing}
+use Rattle.framing.proofs.Tests.{by-test}
 use Rattle.stream.specs.Open.{Prefix, Open, in-header, in-length, in-data, in-tail, Whole}
 use Rattle.stream.proofs.Scan.{opens, wholes}
 use Rattle.stream.proofs.Laws.{opens-prefix}
@@ -91,11 +92,6 @@ module _ (limit : ℕ) where
         tail-length k,
         w .all-there,
       )
-
--- What a test decides.
-abbrev pub by-test : {X : Type 0} (b : Bool) → (b ≡ true → X) → (b ≡ false → ¬ X) → Dec X
-by-test true is not = yes (is refl)
-by-test false is not = no (not refl)
 
 abbrev pub link : ℕ → Framing
 link limit = record {

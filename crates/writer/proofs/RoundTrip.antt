@@ -4,6 +4,7 @@ use mathlib.Core.Path.{_≡_, refl, sym, _∙_}
 use mathlib.Core.Logic.{_↔_}
 use mathlib.Core.List.{List}
 use mathlib.Core.Bool.{Bool, true, false}
+use mathlib.Core.Option.{none}
 use Prim.Native.Nat.{ℕ, _≤_}
 use native.Mathlib.Omega.{arith}
 use lib.ListN.{length, take}
@@ -84,7 +85,7 @@ module _ {A : Type 0} {C : Codec A} {v : A} {e : Error} {good : Bool} (h : Agree
       let x = shown e (h .apart) (h .some) good (C .frame v) out left w in
       (rw (h .refused) (w .0), (rw (h .refused) (w .1), (rw (h .number) (x .1 .1), round-trip)))
 
-  -- The two ways of a writer: the value is refused; or it is good, and the data b, which are its own, are framed.
+  -- The ways of a writer: the value is refused; or it is good, and the data b, which are its own, are framed.
   pub round-refused : (out : List ℕ) → good ≡ false → ShownRound C v good out (Err e) out
   round-refused out q = round-shown out out (rw q (wrote-refused (C .frame v) out e))
 
@@ -94,3 +95,8 @@ module _ {A : Type 0} {C : Codec A} {v : A} {e : Error} {good : Bool} (h : Agree
   round-framed k d out b left f l g q s =
       let x = rw (q, le-leb (length d) 65535 l) at s in
       round-shown out left (rw (g, f) (x .0, x .1 .0))
+
+  -- Or it is good, and its frame is written by other means than `put_frame`.
+  pub round-wrote : (out left : List ℕ) {r : WriteResult} → good ≡ true → Wrote none (C .frame v) out r left
+      → ShownRound C v good out r left
+  round-wrote out left g w = round-shown out left (rw g w)

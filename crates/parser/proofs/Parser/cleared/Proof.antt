@@ -30,11 +30,12 @@ use denote.Triple.Spec.{tripleOf}
 use denote.Triple.Statement.{Contract, Triple}
 use denote.Triple.Walked.{Stays, stay-dropped, walkOf, goes-dropped, ends-at, walked}
 use denote.Exit.{yes}
+use Rattle.engine.proofs.Routines.{carried}
+use Rattle.engine.proofs.LentType.{fits}
 use Rattle.parser.specs.declared.Parser.{Parser}
 use Rattle.parser.proofs.Parser as T
 use Rattle.parser.proofs.Parser.Laws as T′
-use Rattle.parser.proofs.Memory.{P, val, vals, fits}
-use Rattle.parser.proofs.Routines.{carried}
+use Rattle.parser.proofs.Memory.{parser-type, P, val, vals}
 use Rattle.parser.proofs.Local.{lent-call}
 use Rattle.parser.proofs.Parser.reset as reset
 use Rattle.parser.proofs.Parser.reset.Symbol as g
@@ -84,10 +85,10 @@ module _ {M : Type 1} (𝓤 : URA M) (H : Heap 𝓤) (A : Atoms 𝓤) (W : Given
           -- [what h owns; true; the tokens; the requires]
           enter ! Cs Λ code.function (val h ∷ []) _ $
           alloc1 ! (λ l₀. alloc1 ! (λ l₁. alloc1 ! (λ l₂. alloc1 ! (λ l₃. alloc1 ! (λ l₄. alloc0 ! $ params1 ! $
-          pass1 ! (init ! 6 refl (fits 𝓤 H A W h is)) $ pass0 ! $
+          pass1 ! (init ! 6 refl (fits parser-type 𝓤 H A W h is)) $ pass0 ! $
           -- [room for _4; …; _3; …; _2; …; _1; …; _0; …; what h owns; true; the tokens; the requires]
           assigns ! (of-opd ! (load ! (from ! (stop !)) (look ! 6 refl))) (from ! (stop !))
-          (init ! 4 refl (fits 𝓤 H A W h is)) $
+          (init ! 4 refl (fits parser-type 𝓤 H A W h is)) $
           assigns ! (addr ! (from ! (stop !))) (from ! (stop !)) (init ! 0 refl (tt, tt)) $
           move ! (4 ∷ 10 ∷ 11 ∷ 12 ∷ []) $
           lent-call {m = 0} [] tt unit 𝓤 (λ _ h′ _ _. Says h′) H A W tt tt l₂ h (λ ν. tt) (λ ν. tt) ! fm known
@@ -97,7 +98,7 @@ module _ {M : Type 1} (𝓤 : URA M) (H : Heap 𝓤) (A : Atoms 𝓤) (W : Given
           peeks ! unit (Is unit) (shows 𝓤 H A unit) r (v ∷ []) (λ is-v.
           land ! (from ! (stop !)) (init ! 6 refl (nothing-lawful 𝓤 H A W .typed r _ is-v .0)) $ drop ! $
           assigns ! (of-opd ! (load ! (from ! (stop !)) (look ! 0 refl))) (from ! (stop !))
-          (init ! 10 refl (fits 𝓤 H A W p is-p)) $
+          (init ! 10 refl (fits parser-type 𝓤 H A W p is-p)) $
           returns ! (look ! 10 refl) $ forget ! 0 refl $ forget ! 3 refl $ forget ! 5 refl $ forget ! 8 refl $
           forget ! 10 refl $ move ! (10 ∷ 11 ∷ []) $ free1 ! $ move ! (8 ∷ 9 ∷ []) $ free1 ! $
           move ! (0 ∷ 7 ∷ []) $ free1 ! $

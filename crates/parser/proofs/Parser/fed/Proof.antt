@@ -19,7 +19,7 @@ use Rattle.parser.proofs.Parser.fed.Code as code
 abbrev hands : Hands byte
 hands = record {
   extra-ty = tyInt w8;
-  extra-typed = byte .extra-typed;
+  extra-typed = byte .extra .typed;
   result = D.the-type;
   result-laws = D′.the-laws;
   result-plain = D′.the-plain;

@@ -21,7 +21,7 @@ use Rattle.parser.proofs.Parser.fed_slice.Code as code
 abbrev hands : Hands slice
 hands = record {
   extra-ty = sliceTy (tyRef (named 0) imm (tyInt w8));
-  extra-typed = slice .extra-typed;
+  extra-typed = slice .extra .typed;
   result = D.the-type;
   result-laws = D′.the-laws;
   result-plain = D′.the-plain;

@@ -1,7 +1,7 @@
--- `parser::Parser::feed` meets its contract: LentFeed.antt walks it, over what `feed_at` promises. Assumes nothing.
+-- `parser::Parser::feed` meets its contract: LentWalk.antt walks it, over what `feed_at` promises. Assumes nothing.
+use Rattle.engine.proofs.LentWalk.{lent-feed}
 use Rattle.parser.specs.Feed.{feedOf}
 use Rattle.parser.proofs.Feeds.{byte}
-use Rattle.parser.proofs.LentFeed.{lent-feed}
 use Rattle.feed.proofs.feed_at.Symbol as g
 use Rattle.feed.proofs.feed_at.Met as g-thm
 use Rattle.parser.proofs.Parser.feed.Key as key

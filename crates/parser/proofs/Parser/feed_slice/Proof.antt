@@ -1,8 +1,8 @@
--- `parser::Parser::feed_slice` meets its contract: LentFeed.antt walks it, over what `feed_slice_at` promises.
+-- `parser::Parser::feed_slice` meets its contract: LentWalk.antt walks it, over what `feed_slice_at` promises.
 -- Assumes nothing.
+use Rattle.engine.proofs.LentWalk.{lent-feed}
 use Rattle.parser.specs.Feed.{feedSliceOf}
 use Rattle.parser.proofs.Feeds.{slice}
-use Rattle.parser.proofs.LentFeed.{lent-feed}
 use Rattle.feed.proofs.feed_slice_at.Symbol as g
 use Rattle.feed.proofs.feed_slice_at.Met as g-thm
 use Rattle.parser.proofs.Parser.feed_slice.Key as key

@@ -1,0 +1,16 @@
+-- The numbers that document 02 prints are what the definitions say.
+use mathlib.Core.Path.{refl}
+use Rattle.wire.specs.Equal.{sameBytes}
+use Rattle.ld2450.specs.Signed.{signedOf}
+use Rattle.ld2450.specs.Target.{targetOf}
+use Rattle.ld2450.specs.Frame.{isFrame, parsedTargets}
+use Rattle.ld2450.specs.Bytes.{targetBytes}
+use Rattle.ld2450.specs.Claims.{Examples, WrittenExample}
+
+pub examples : Examples
+unfolding sameBytes signedOf targetOf isFrame parsedTargets
+examples = record { minus = refl; plus = refl; clear-zero = refl; set-zero = refl; read = refl }
+
+pub written-example : WrittenExample
+unfolding targetBytes
+written-example = refl

@@ -1,0 +1,55 @@
+-- A target's eight bytes, and which targets may be written: document 02, item 6.
+--   isZero z           z is 0
+--   presentBytes t     the bytes of a target that is there
+--   targetBytes t      the eight bytes of the target t
+--   targetsBytes ts    those of targets, one after another
+--   targetsFrame ts    the frame around them
+--   writable t         the target t may be written; allWritable ts, each of the targets may
+--   unrepresentable ts refusal 6, unless they may
+use mathlib.Core.List.{List, [], _∷_, _++_}
+use mathlib.Core.Bool.{Bool, true, false, cond, _&&_}
+use mathlib.Core.Option.{Option}
+use Prim.Native.Nat.{ℕ}
+use lib.Dec.{eqb}
+use lib.ListN.{replicate}
+use lib.IntN.{ℤ, pos, negsuc}
+use Rattle.refusal.specs.declared.Error.{Error}
+use Rattle.refusal.specs.declared.Error.the-variants.{Unrepresentable}
+use Rattle.wire.specs.Number.{leBytes}
+use Rattle.writer.specs.Written.{unless}
+use Rattle.ld2450.specs.Signed.{rawOf, sayable}
+use Rattle.ld2450.specs.Frame.{framed}
+use Rattle.ld2450.specs.declared.targets.Target.{Target}
+
+abbrev pub isZero : ℤ → Bool
+isZero (pos n) = eqb n 0
+isZero (negsuc n) = false
+
+abbrev pub presentBytes : Target → List ℕ
+presentBytes t =
+    leBytes 2 (rawOf (t .x))
+    ++ (leBytes 2 (rawOf (t .y)) ++ (leBytes 2 (rawOf (t .speed)) ++ leBytes 2 (t .resolution)))
+
+-- "Eight zero bytes mean no target"
+unfoldable pub targetBytes : Target → List ℕ
+targetBytes t = cond (t .present) (presentBytes t) (replicate 8 0)
+
+abbrev pub targetsBytes : List Target → List ℕ
+targetsBytes [] = []
+targetsBytes (t ∷ ts) = targetBytes t ++ targetsBytes ts
+
+abbrev pub targetsFrame : List Target → List ℕ
+targetsFrame ts = framed (targetsBytes ts)
+
+-- "-32,768, and a field not 0 in an absent target, get 6"
+unfoldable pub writable : Target → Bool
+writable t = cond (t .present)
+    (sayable (t .x) && (sayable (t .y) && sayable (t .speed)))
+    (isZero (t .x) && (isZero (t .y) && (isZero (t .speed) && eqb (t .resolution) 0)))
+
+abbrev pub allWritable : List Target → Bool
+allWritable [] = true
+allWritable (t ∷ ts) = writable t && allWritable ts
+
+abbrev pub unrepresentable : List Target → Option Error
+unrepresentable ts = unless (allWritable ts) Unrepresentable

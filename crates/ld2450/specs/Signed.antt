@@ -1,0 +1,21 @@
+-- Signed numbers of two bytes: document 02, item 6.
+--   signedOf n   the number that the two-byte number n says
+--   sayable z    some two-byte number says z: of sixteen bits each but -32,768
+--   rawOf z      the two-byte number that is written for z in a present target
+use mathlib.Core.Bool.{Bool, true, cond}
+use Prim.Native.Nat.{ℕ, suc, _+_, _%_}
+use lib.Dec.{leb}
+use lib.IntN.{ℤ, pos, negsuc, negℤ}
+
+-- "top bit set means the low 15 bits, top bit clear means minus those bits"
+unfoldable pub signedOf : ℕ → ℤ
+signedOf n = cond (leb 0x8000 n) (pos (n % 0x8000)) (negℤ (pos (n % 0x8000)))
+
+abbrev pub sayable : ℤ → Bool
+sayable (pos n) = true
+sayable (negsuc n) = leb (suc n) 0x7FFF
+
+-- "zero of a present target as 00 80 in the signed fields"
+abbrev pub rawOf : ℤ → ℕ
+rawOf (pos n) = 0x8000 + n
+rawOf (negsuc n) = suc n

@@ -1,0 +1,39 @@
+// Numbers of two bytes with a sign of their own: the top bit set is plus, clear is minus.
+ghost use mathlib.Core.Path.{_≡_};
+ghost use mathlib.Core.Bool.{true};
+ghost use Rattle.ld2450.specs.Signed.{signedOf, sayable, rawOf};
+ghost use Rattle.ld2450.specs.Bytes.{isZero};
+
+// The number that a two-byte number says.
+pub(crate) fn signed(raw: u16) -> i16
+    ensures said { λ r. ⌜ r ≡ signedOf raw ⌝ }
+{
+    let low = (raw % 0x8000) as i16;
+    if raw >= 0x8000 { low } else { 0 - low }
+}
+
+// Whether a two-byte number says it.
+pub(crate) fn sayable(x: i16) -> bool
+    ensures tested { λ r. ⌜ r ≡ sayable x ⌝ }
+{
+    x != -32768
+}
+
+// Whether it is 0.
+pub(crate) fn is_zero(x: i16) -> bool
+    ensures tested { λ r. ⌜ r ≡ isZero x ⌝ }
+{
+    x == 0
+}
+
+// The two-byte number that is written for it.
+pub(crate) fn raw_of(x: i16) -> u16
+    requires can { ⌜ sayable x ≡ true ⌝ }
+    ensures told { λ r. ⌜ r ≡ rawOf x ⌝ }
+{
+    if x < 0 {
+        (0 - x) as u16
+    } else {
+        0x8000 + (x as u16)
+    }
+}

@@ -1,0 +1,50 @@
+-- What the pieces of the LD2450's stream are. src/lib.rt pins each of these claims in a contract.
+--   DeliversWhole  what a whole frame delivers is what the frame reader gives for it
+--   StrayBytes     a stray byte is any but AA
+--   BrokenFrames   a frame that breaks is a broken start, up to the byte that breaks it; only that byte is tried again
+--   stream         one of each kind of piece: a stray byte, a broken start, the frame `seen`, an unfinished end
+--   twoSlices      the stream in a slice, and what is left of it in another
+--   Shown x        the parser x divides that stream so, delivers the frame and counts the pieces
+use mathlib.Core.Path.{_≡_}
+use mathlib.Core.Logic.{_≢_, _↔_, _⊎_}
+use mathlib.Core.List.{List, [], _∷_, _++_}
+use Prim.Native.Nat.{ℕ, _≤_, _<_}
+use lib.ListN.{length, getD, take, drop}
+use Rattle.framing.specs.Piece.{Piece, stray, broken, whole, unfinished}
+use Rattle.framing.specs.Division.{Division}
+use Rattle.engine.specs.Calls.{Call, slice, sliced}
+use Rattle.ld2450.specs.Frame.{framed, parsedTargets, returnedTargets}
+use Rattle.ld2450.specs.Claims.{seen}
+use Rattle.ld2450_parser.specs.Stream.{Open, Whole, nothing, delivered}
+use Rattle.ld2450_parser.specs.Feed.{unfinishedOf}
+use Rattle.ld2450_parser.specs.Claims.{did, left}
+use Rattle.ld2450_parser.specs.declared.Parser.{Parser}
+
+-- "every whole frame decodes"
+unfoldable pub DeliversWhole : Type 0
+DeliversWhole = (f : List ℕ) → Whole f
+    → (returnedTargets (parsedTargets f) .number ≡ 0) × (parsedTargets f .targets ≡ delivered f .targets)
+
+unfoldable pub StrayBytes : Type 0
+StrayBytes = (b : ℕ) → (¬ Open (b ∷ [])) ↔ (b ≢ 0xAA)
+
+-- 01: "After a broken tail the whole span is searched again. Only the offending byte is." Of a frame n bytes are there,
+-- the next is one of the header or the tail, and c is another: whatever the targets hold, what was there is a broken
+-- start, and c is the first byte of what is divided next.
+unfoldable pub BrokenFrames : Type 0
+BrokenFrames = (d : List ℕ) (n c : ℕ) (t : List ℕ) (ps : List Piece) → length d ≡ 24 → 0 < n → n < 30
+    → (n < 4) ⊎ (28 ≤ n) → c ≢ getD (framed d) n 0 → Division Open Whole (c ∷ t) ps
+    → Division Open Whole (take n (framed d) ++ (c ∷ t)) (broken (take n (framed d)) ∷ ps)
+
+abbrev pub stream : List ℕ
+stream = 0x00 ∷ 0xAA ∷ seen ++ (0xAA ∷ 0xFF ∷ [])
+
+abbrev pub twoSlices : List Call
+twoSlices = slice stream ∷ slice (drop 32 stream) ∷ []
+
+pub record Shown (x : Parser) : Type 0 where
+  pub divided : Division Open Whole stream
+      (stray 0x00 ∷ broken (0xAA ∷ []) ∷ whole seen ∷ unfinished (0xAA ∷ 0xFF ∷ []) ∷ [])
+  pub answered : did x twoSlices ≡ sliced stream 32 (delivered seen) ∷ sliced (drop 32 stream) 2 nothing ∷ []
+  pub counted : left x twoSlices .stats ≡ record { frames = 1; resyncs = 1; dropped = 2 }
+  pub cut-off : unfinishedOf (left x twoSlices) ≡ 2
