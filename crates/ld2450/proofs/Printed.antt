@@ -1,4 +1,5 @@
--- The numbers that document 02 prints are what the definitions say.
+-- The numbers that document 02 prints are what the definitions say, and the frame that is spelled is read and written
+-- so.
 use mathlib.Core.Path.{refl}
 use Rattle.wire.specs.Equal.{sameBytes}
 use Rattle.ld2450.specs.Signed.{signedOf}

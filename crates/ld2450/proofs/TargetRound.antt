@@ -17,7 +17,7 @@ use Rattle.wire.proofs.Equality.{same-complete, same-differs}
 use Rattle.ld2450.specs.Signed.{signedOf, rawOf}
 use Rattle.ld2450.specs.Target.{absent, fieldAt, presentOf, targetOf}
 use Rattle.ld2450.specs.Bytes.{isZero, presentBytes, targetBytes, writable}
-use Rattle.ld2450.specs.RoundTrip.{Plain}
+use Rattle.ld2450.specs.RoundTrip.{AsWritten}
 use Rattle.ld2450.specs.declared.targets.Target.{Target}
 use Rattle.ld2450.proofs.Signs.{Raw, raw, said-sayable, said-raw}
 use Rattle.ld2450.proofs.TargetBytes.{writable-said, target-absent}
@@ -128,11 +128,11 @@ module _ (t : Target) where
     pub target-read : targetOf (targetBytes t) ≡ t
     target-read = read-by (t .present) refl
 
-    plain-by : (p : Bool) → t .present ≡ p → Plain (targetBytes t)
+    plain-by : (p : Bool) → t .present ≡ p → AsWritten (targetBytes t)
     plain-by true there = rw (present-bytes t there) (inr (present-fields t there h e))
     plain-by false gone = inl (absent-bytes t gone)
 
-    pub target-plain : Plain (targetBytes t)
+    pub target-plain : AsWritten (targetBytes t)
     target-plain = plain-by (t .present) refl
 
 -- A field of eight bytes has two of them.
@@ -148,7 +148,7 @@ module _ (b : List ℕ) (h : Eight b) where
       little-wide (take 2 (drop i b)) (bytes-take 2 (drop i b) (bytes-drop i b (h .bytes)))
       (simp (length-take, length-drop) (omega arith))
 
-  -- Plain bytes are written again for the target that they are read as.
+  -- AsWritten bytes are written again for the target that they are read as.
   present-again : (fieldAt b 0 ≢ 0) × (fieldAt b 2 ≢ 0) × (fieldAt b 4 ≢ 0) → targetBytes (presentOf b) ≡ b
   unfolding targetBytes
   present-again k =
@@ -165,7 +165,7 @@ module _ (b : List ℕ) (h : Eight b) where
       (leBytes-again 2 b 2 (leBytes 2 (fieldAt b 4) ++ leBytes 2 (fieldAt b 6)) (h .bytes) (omega arith)
       (leBytes-again 2 b 4 (leBytes 2 (fieldAt b 6)) (h .bytes) (omega arith) last)))
 
-  pub target-again : Plain b → targetBytes (targetOf b) ≡ b
+  pub target-again : AsWritten b → targetBytes (targetOf b) ≡ b
   unfolding targetBytes
   target-again (inl e) = rw (none-read b e) (sym e)
   target-again (inr k) = rw (some-read b (field-some b (k .0))) (present-again k)

@@ -1,6 +1,6 @@
 -- What document 02, item 6, prints of its signed numbers, and where the fields stand in a frame.
 --   said a b         the number that the byte a and the byte b after it say
---   seen             a frame of three targets: `apart`, at x -782 and y 1,713; `zeros`, there with every field 0; none
+--   seen             a frame of three targets: `apart`, at x -782, y 1,713; `zeros`, there with every field 0; and none
 --   Examples         "So 0E 03 is -782, B1 86 is 1,713, and 00 00 and 00 80 are both 0."
 --   WrittenExample   the frame that is written for these targets: "zero of a present target as 00 80"
 use mathlib.Core.Path.{_≡_}
@@ -21,11 +21,11 @@ abbrev pub said : ℕ → ℕ → ℤ
 said a b = signedOf (little (a ∷ b ∷ []))
 
 abbrev pub seen : List ℕ
-seen = (0xAA ∷ 0xFF ∷ 0x03 ∷ 0x00 ∷ 0x0E ∷ 0x03 ∷ 0xB1 ∷ 0x86 ∷ 0x00 ∷ 0x00 ∷ 0x40 ∷ 0x01 ∷ [])
+seen = (0xAA ∷ 0xFF ∷ 0x03 ∷ 0x00 ∷ 0x0E ∷ 0x03 ∷ 0xB1 ∷ 0x86 ∷ 0x10 ∷ 0x00 ∷ 0x40 ∷ 0x01 ∷ [])
     ++ ((0x00 ∷ 0x80 ∷ 0x00 ∷ 0x00 ∷ 0x00 ∷ 0x80 ∷ 0x00 ∷ 0x00 ∷ []) ++ (replicate 8 0x00 ++ (0x55 ∷ 0xCC ∷ [])))
 
 abbrev pub apart : Target
-apart = record { present = true; x = negℤ (pos 782); y = pos 1713; speed = pos 0; resolution = 320 }
+apart = record { present = true; x = negℤ (pos 782); y = pos 1713; speed = negℤ (pos 16); resolution = 320 }
 
 abbrev pub zeros : Target
 zeros = record { present = true; x = pos 0; y = pos 0; speed = pos 0; resolution = 0 }
@@ -39,5 +39,5 @@ pub record Examples : Type 0 where
 
 abbrev pub WrittenExample : Type 0
 WrittenExample = targetsFrame (apart ∷ zeros ∷ absent ∷ [])
-    ≡ (0xAA ∷ 0xFF ∷ 0x03 ∷ 0x00 ∷ 0x0E ∷ 0x03 ∷ 0xB1 ∷ 0x86 ∷ 0x00 ∷ 0x80 ∷ 0x40 ∷ 0x01 ∷ [])
+    ≡ (0xAA ∷ 0xFF ∷ 0x03 ∷ 0x00 ∷ 0x0E ∷ 0x03 ∷ 0xB1 ∷ 0x86 ∷ 0x10 ∷ 0x00 ∷ 0x40 ∷ 0x01 ∷ [])
     ++ ((0x00 ∷ 0x80 ∷ 0x00 ∷ 0x80 ∷ 0x00 ∷ 0x80 ∷ 0x00 ∷ 0x00 ∷ []) ++ (replicate 8 0x00 ++ (0x55 ∷ 0xCC ∷ [])))

@@ -6,8 +6,8 @@
 --   noTargets         no targets: every field 0
 --   parsedTargets s   the reader's answer for s
 --   returnedTargets r what the answer r returns
---   ReadCauses s r    1 is returned by r exactly where s is no frame, and beside it every field is 0
---   OneAnswer s       these causes leave no choice
+--   ReadCauses s r    r has 1 exactly where s is no frame, with every field 0, and else the frame's targets
+--   OneAnswer s       these causes leave no choice of number and targets
 use mathlib.Core.Path.{_≡_}
 use mathlib.Core.Logic.{_↔_, _⊎_}
 use mathlib.Core.List.{List, [], _∷_, _++_}

@@ -1,6 +1,7 @@
 -- Targets, written and read: "The reader gives each written value again", and 6 is for those that it cannot give.
 --   ReadAs f ts    the reader gives the targets ts for the string f
---   Plain b        the eight bytes b are as the writer writes them: no target, or no signed field 00 00
+--   AsWritten b    the eight bytes b are as the writer writes them: no target, or no signed field 00 00
+--   EachAsWritten  so are those of each target
 --   targetFrames   the writer of targets and the reader of frames
 use mathlib.Core.Path.{_≡_}
 use mathlib.Core.Logic.{_≢_, _⊎_}
@@ -18,8 +19,11 @@ abbrev pub ReadAs : List ℕ → List Target → Type 0
 ReadAs f ts = parsedTargets f ≡ record { outcome = Ok; targets = ts }
 
 -- 00 00 and 00 80 are both 0, and 00 80 is written
-abbrev pub Plain : List ℕ → Type 0
-Plain b = (b ≡ replicate 8 0) ⊎ ((fieldAt b 0 ≢ 0) × (fieldAt b 2 ≢ 0) × (fieldAt b 4 ≢ 0))
+abbrev pub AsWritten : List ℕ → Type 0
+AsWritten b = (b ≡ replicate 8 0) ⊎ ((fieldAt b 0 ≢ 0) × (fieldAt b 2 ≢ 0) × (fieldAt b 4 ≢ 0))
+
+abbrev pub EachAsWritten : List ℕ → Type 0
+EachAsWritten d = AsWritten (take 8 d) × AsWritten (take 8 (drop 8 d)) × AsWritten (take 8 (drop 16 d))
 
 abbrev pub targetFrames : Codec (List Target)
 targetFrames = record {
@@ -30,5 +34,5 @@ targetFrames = record {
   -- every frame has the one length
   Within = λ f. Unit {0};
   -- the item promises no bytes again; these come back all the same
-  Kept = λ f. Plain (take 8 (heldIn f)) × Plain (take 8 (drop 8 (heldIn f))) × Plain (take 8 (drop 16 (heldIn f)));
+  Kept = λ f. EachAsWritten (heldIn f);
 }

@@ -98,7 +98,7 @@ pub fn read_targets(bytes: &[u8]) -> TargetsResult
 // that the reader cannot give, then with 4 a buffer shorter than the frame. Bytes after the frame stay, and a refused
 // call changes none.
 pub fn write_targets(out: &mut [u8], targets: [Target; TARGETS]) -> WriteResult
-    ensures example { λ _. ⌜ WrittenExample ⌝ }
+    ensures examples { λ _. ⌜ WrittenExample ⌝ }
     ensures told { λ r. ⌜ r ≡ writeResult (unrepresentable targets) (targetsFrame targets)
         (length (now (out .entry))) ⌝ }
     ensures left { λ _. ⌜ now (out .exit) ≡ bufferAfter (unrepresentable targets) (targetsFrame targets)

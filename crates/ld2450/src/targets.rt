@@ -22,7 +22,7 @@ pub struct Target {
     pub y: i16,
     // Its speed, in centimetres a second.
     pub speed: i16,
-    // The resolution of its distance, in millimetres.
+    // The resolution, in millimetres.
     pub resolution: u16,
 }
 

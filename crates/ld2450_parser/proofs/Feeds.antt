@@ -4,7 +4,7 @@
 use denote.Ref.{now}
 use Rattle.engine.proofs.PlainField.{declared}
 use Rattle.engine.proofs.LentFeed.{Feed, byte-extra, slice-extra}
-use Rattle.ld2450_parser.specs.Feed.{feedOf, feedSliceOf, beside, sliceBeside}
+use Rattle.ld2450_parser.specs.Feed.{feedOf, feedSliceOf, movedOf, sliceMovedOf}
 use Rattle.ld2450_parser.specs.Claims.{FromAny}
 use Rattle.ld2450_parser.specs.declared.feeding.Moved.{Moved}
 use Rattle.ld2450_parser.specs.declared.feeding.MovedSlice.{MovedSlice}
@@ -25,7 +25,7 @@ byte = record {
   Moved = Moved;
   fields = F.struct .as-values;
   fixed = F.the-type .to-one;
-  gives = λ _ v b. beside (feedOf (parser-type .put v) b);
+  gives = λ _ v b. movedOf (feedOf (parser-type .put v) b);
   leaves = λ _ v b. feedOf (parser-type .put v) b .parser .buf;
   Claim = FromAny;
   claimed = known-any;
@@ -39,7 +39,7 @@ slice = record {
   Moved = MovedSlice;
   fields = G.struct .as-values;
   fixed = G.the-type .to-one;
-  gives = λ _ v s. sliceBeside (feedSliceOf (parser-type .put v) (now s));
+  gives = λ _ v s. sliceMovedOf (feedSliceOf (parser-type .put v) (now s));
   leaves = λ _ v s. feedSliceOf (parser-type .put v) (now s) .parser .buf;
   Claim = FromAny;
   claimed = known-any;

@@ -9,9 +9,9 @@ use Rattle.framing.specs.Division.{is-broken}
 use Rattle.framing.proofs.Scanned.{division-exists}
 use Rattle.ld2450.specs.Frame.{framed}
 use Rattle.ld2450.proofs.Frames.{framed-length, parsed-frame, frame-complete}
-use Rattle.ld2450_parser.specs.Feed.{orReset, dueAt, abandoned, started, expected, stepOf, stored, answerIf}
+use Rattle.ld2450_parser.specs.Feed.{orReset, dueAt, abandoned, started, whereDue, stepOf, stored, answerIf}
 use Rattle.ld2450_parser.specs.Feed.{fresh, stepped, runOf, feedSliceOf, unfinishedOf}
-use Rattle.ld2450_parser.specs.Pieces.{DeliversWhole, StrayBytes, BrokenFrames, stream, Shown}
+use Rattle.ld2450_parser.specs.Pieces.{DeliversWhole, StrayBytes, BrokenFrames, oneOfEach, Shown}
 use Rattle.ld2450_parser.proofs.Frames.{link, waits, first-not-open}
 use Rattle.ld2450_parser.proofs.Places.{framed-due, not-open}
 
@@ -33,5 +33,5 @@ broken-frames d n c t ps l some u o ne rest =
     is-broken {s = p} (λ e. omega (arith, ap length e)) (w .0) (w .1) off rest
 
 pub shown : Shown fresh
-unfolding orReset dueAt abandoned started expected stepOf stored answerIf stepped runOf feedSliceOf unfinishedOf bumped
-shown = record { divided = division-exists link stream; answered = refl; counted = refl; cut-off = refl }
+unfolding orReset dueAt abandoned started whereDue stepOf stored answerIf stepped runOf feedSliceOf unfinishedOf bumped
+shown = record { divided = division-exists link oneOfEach; answered = refl; counted = refl; cut-off = refl }

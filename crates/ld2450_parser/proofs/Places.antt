@@ -16,7 +16,7 @@ use Rattle.ld2450.specs.Frame.{header, tail, framed}
 use Rattle.ld2450.proofs.Frames.{framed-length}
 use Rattle.ld2450_parser.specs.Stream.{Open}
 use Rattle.ld2450_parser.specs.Feed.{among, dueAt, continued, ended, abandoned, oneDropped, started}
-use Rattle.ld2450_parser.specs.Feed.{expected, stepOf, stored}
+use Rattle.ld2450_parser.specs.Feed.{whereDue, stepOf, stored}
 use Rattle.ld2450_parser.specs.declared.Stats.{Stats}
 
 -- A place is among the targets, or in the header or the tail.
@@ -94,7 +94,7 @@ module _ (n : ℕ) (u : n ≤ 29) (st : Stats) (d : List ℕ) (l : length d ≡ 
 
   turn-inside : Inside n → Turn
   unfolding stepOf
-  turn-inside i = goes-on (omega arith) (among-inside n (continued (n + 1) st) (expected n st b) i)
+  turn-inside i = goes-on (omega arith) (among-inside n (continued (n + 1) st) (whereDue n st b) i)
       (longer-inside n u d l b i)
 
   module _ (o : Outside n) where
@@ -102,12 +102,12 @@ module _ (n : ℕ) (u : n ≤ 29) (st : Stats) (d : List ℕ) (l : length d ≡ 
     unfolding stored
     same-buffer = among-outside n (set d (n - 4) b) d o
 
-    step-due : stepOf n st b ≡ expected n st b
+    step-due : stepOf n st b ≡ whereDue n st b
     unfolding stepOf
-    step-due = among-outside n (continued (n + 1) st) (expected n st b) o
+    step-due = among-outside n (continued (n + 1) st) (whereDue n st b) o
 
     turn-due : (e : b ≡ dueAt n) → Dec (28 < n) → Turn
-    unfolding expected
+    unfolding whereDue
     turn-due e (yes h) =
         let all : take (suc n) (framed d) ≡ framed d =
         take-all (suc n) (framed d) (omega (arith, framed-length d l)) in
@@ -118,7 +118,7 @@ module _ (n : ℕ) (u : n ≤ 29) (st : Stats) (d : List ℕ) (l : length d ≡ 
         (rw same-buffer (longer-outside n u d l b o e))
 
     turn-by : (x : Bool) → eqb b (dueAt n) ≡ x → Turn
-    unfolding expected
+    unfolding whereDue
     turn-by true e = turn-due (eqb-true b (dueAt n) e) (decLe 29 n)
     turn-by false e = goes-off (step-due ∙ rw e) same-buffer (not-open n u d l b o (eqb-false b (dueAt n) e))
 

@@ -83,7 +83,7 @@ module _ (divide : (t : List ℕ) → Divided Open Whole t) where
 
 module _ (p : List ℕ) (x : Parser) (v : Valid x) (demand : Demand3 p x) where
   pub receives : Receives p x
-  receives calls h dss held e =
+  receives calls dss h held e =
       let y = demand calls h in
       let resynced = none-added (y .divide) resyncs wholes-broken dss held in
       let lost = none-added (y .divide) dropped wholes-lost dss held in

@@ -6,7 +6,7 @@
 --   Determined p x    the demand leaves no choice: whatever fulfils it does as the parser x does
 --   backToBack ds     frames, one after another, by the 24 target bytes of each
 --   allOf dss         the frames of all stretches
---   Received          the calls on x delivered the targets of each of these frames, and lost no byte
+--   AllDelivered      the calls on x delivered the targets of each of the frames ds, and lost no byte
 --   Receives p x      so they do wherever each stretch, the first with p, which is pending in x, is such frames
 --   OutOfRange x      x has more bytes of a frame than a frame in progress can have
 --   Stands x p        p is what x stands for: the bytes of the frame in progress, none out of range
@@ -49,8 +49,8 @@ abbrev pub FromHere : Parser → Type 0
 FromHere x = Demand3 [] x
 
 abbrev pub Determined : List ℕ → Parser → Type 0
-Determined p x = (E : Engine Parser MaybeTargets Counter) (s : Parser) (calls : List Call) → Every ByteCall calls
-    → Fulfilled ld2450 E p s calls → E .max ≡ counterMax
+Determined p x = (E : Engine Parser MaybeTargets Counter) (s : Parser) (calls : List Call)
+    → Every ByteCall calls → Fulfilled ld2450 E p s calls → E .max ≡ counterMax
     → ((k : Counter) → E .counter k s ≡ counterIn k (x .stats)) → Same E engine s x calls
 
 abbrev pub backToBack : List (List ℕ) → List ℕ
@@ -61,7 +61,7 @@ abbrev pub allOf : List (List (List ℕ)) → List (List ℕ)
 allOf [] = []
 allOf (ds ∷ dss) = ds ++ allOf dss
 
-pub record Received (x : Parser) (calls : List Call) (ds : List (List ℕ)) : Type 0 where
+pub record AllDelivered (x : Parser) (calls : List Call) (ds : List (List ℕ)) : Type 0 where
   -- each once, in order, and nothing else
   pub each : deliveries (ld2450 .delivers) (did x calls)
       ≡ map (λ (d : List ℕ). record { there = true; targets = threeOf d }) ds
@@ -71,9 +71,9 @@ pub record Received (x : Parser) (calls : List Call) (ds : List (List ℕ)) : Ty
 
 -- For who sends: it follows from the demand, and says no word of divisions. Of each stretch the frames are one list.
 abbrev pub Receives : List ℕ → Parser → Type 0
-Receives p x = (calls : List Call) → Every ByteCall calls → (dss : List (List (List ℕ)))
-    → Every (Every (λ (d : List ℕ). length d ≡ 24)) dss → stretches p (did x calls) ≡ map backToBack dss
-    → Received x calls (allOf dss)
+Receives p x = (calls : List Call) (dss : List (List (List ℕ)))
+    → Every ByteCall calls → Every (Every (λ (d : List ℕ). length d ≡ 24)) dss
+    → stretches p (did x calls) ≡ map backToBack dss → AllDelivered x calls (allOf dss)
 
 -- A frame has 30 bytes, so one in progress has at most 29.
 abbrev pub OutOfRange : Parser → Type 0

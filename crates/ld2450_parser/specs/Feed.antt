@@ -6,13 +6,13 @@
 --   continued, ended      what a byte leaves that goes on with a frame, or ends one
 --   abandoned st n        the counters where a frame in progress breaks, of which n bytes are there
 --   oneDropped, started   the counters after a stray byte; what a byte leaves that is tried as the first of a frame
---   expected, stepOf      what a byte leaves, of the place and the counters: where one is due, and at any place
+--   whereDue, stepOf      what a byte leaves, of the place and the counters: where one is due, and at any place
 --   stored n buf b        the buffer that the byte b leaves
 --   answerIf e d          the answer: the targets of the bytes d where a frame ended, else "no frame"
 --   stepped, runOf        a byte, and a slice, fed to a parser in range; thenRun, a byte and then what follows it
---   still               a parser, its place reset where that is due
+--   still p               a parser, its place reset where that is due
 --   feedOf, feedSliceOf, resetOf, unfinishedOf   what the calls do to any parser
---   beside, sliceBeside   what a byte or a slice fed leaves beside the buffer, with the answer
+--   movedOf, sliceMovedOf what a byte or a slice fed leaves beside the buffer, with the answer
 -- What the document leaves free: a byte of the buffer changes only where a target's byte is stored.
 use mathlib.Core.List.{List, [], _∷_}
 use mathlib.Core.Bool.{Bool, true, false, cond}
@@ -74,12 +74,12 @@ oneDropped st = record { frames = st .frames; resyncs = st .resyncs; dropped = b
 unfoldable pub started : Stats → ℕ → Stepped
 started st b = cond (eqb b 0xAA) (continued 1 st) (continued 0 (oneDropped st))
 
-unfoldable pub expected : ℕ → Stats → ℕ → Stepped
-expected n st b = cond (eqb b (dueAt n)) (cond (ltb n 29) (continued (n + 1) st) (ended st))
+unfoldable pub whereDue : ℕ → Stats → ℕ → Stepped
+whereDue n st b = cond (eqb b (dueAt n)) (cond (ltb n 29) (continued (n + 1) st) (ended st))
     (started (abandoned st n) b)
 
 unfoldable pub stepOf : ℕ → Stats → ℕ → Stepped
-stepOf n st b = among n (continued (n + 1) st) (expected n st b)
+stepOf n st b = among n (continued (n + 1) st) (whereDue n st b)
 
 unfoldable pub stored : ℕ → List ℕ → ℕ → List ℕ
 stored n buf b = among n (set buf (n - 4) b) buf
@@ -122,8 +122,8 @@ resetOf p = put (p .buf) 0 (p .stats)
 unfoldable pub unfinishedOf : Parser → ℕ
 unfinishedOf p = orReset (p .at)
 
-abbrev pub beside : Fed → Moved
-beside r = record { at = r .parser .at; stats = r .parser .stats; answer = r .answer }
+abbrev pub movedOf : Fed → Moved
+movedOf r = record { at = r .parser .at; stats = r .parser .stats; answer = r .answer }
 
-abbrev pub sliceBeside : FedSlice → MovedSlice
-sliceBeside r = record { at = r .parser .at; stats = r .parser .stats; answer = r .answer }
+abbrev pub sliceMovedOf : FedSlice → MovedSlice
+sliceMovedOf r = record { at = r .parser .at; stats = r .parser .stats; answer = r .answer }

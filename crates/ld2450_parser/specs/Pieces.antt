@@ -2,8 +2,8 @@
 --   DeliversWhole  what a whole frame delivers is what the frame reader gives for it
 --   StrayBytes     a stray byte is any but AA
 --   BrokenFrames   a frame that breaks is a broken start, up to the byte that breaks it; only that byte is tried again
---   stream         one of each kind of piece: a stray byte, a broken start, the frame `seen`, an unfinished end
---   twoSlices      the stream in a slice, and what is left of it in another
+--   oneOfEach      a stream of each kind of piece: a stray byte, a broken start, the frame `seen`, an unfinished end
+--   twoSlices      that stream in a slice, and what is left of it in another
 --   Shown x        the parser x divides that stream so, delivers the frame and counts the pieces
 use mathlib.Core.Path.{_≡_}
 use mathlib.Core.Logic.{_≢_, _↔_, _⊎_}
@@ -36,15 +36,15 @@ BrokenFrames = (d : List ℕ) (n c : ℕ) (t : List ℕ) (ps : List Piece) → l
     → (n < 4) ⊎ (28 ≤ n) → c ≢ getD (framed d) n 0 → Division Open Whole (c ∷ t) ps
     → Division Open Whole (take n (framed d) ++ (c ∷ t)) (broken (take n (framed d)) ∷ ps)
 
-abbrev pub stream : List ℕ
-stream = 0x00 ∷ 0xAA ∷ seen ++ (0xAA ∷ 0xFF ∷ [])
+abbrev pub oneOfEach : List ℕ
+oneOfEach = 0x00 ∷ 0xAA ∷ seen ++ (0xAA ∷ 0xFF ∷ [])
 
 abbrev pub twoSlices : List Call
-twoSlices = slice stream ∷ slice (drop 32 stream) ∷ []
+twoSlices = slice oneOfEach ∷ slice (drop 32 oneOfEach) ∷ []
 
 pub record Shown (x : Parser) : Type 0 where
-  pub divided : Division Open Whole stream
+  pub divided : Division Open Whole oneOfEach
       (stray 0x00 ∷ broken (0xAA ∷ []) ∷ whole seen ∷ unfinished (0xAA ∷ 0xFF ∷ []) ∷ [])
-  pub answered : did x twoSlices ≡ sliced stream 32 (delivered seen) ∷ sliced (drop 32 stream) 2 nothing ∷ []
+  pub answered : did x twoSlices ≡ sliced oneOfEach 32 (delivered seen) ∷ sliced (drop 32 oneOfEach) 2 nothing ∷ []
   pub counted : left x twoSlices .stats ≡ record { frames = 1; resyncs = 1; dropped = 2 }
   pub cut-off : unfinishedOf (left x twoSlices) ≡ 2

@@ -9,7 +9,7 @@ use ld2450::HELD_LEN;
 use ld2450::no_targets;
 use ld2450::read_held;
 ghost use mathlib.Core.Path.{_≡_};
-ghost use Rattle.ld2450_parser.specs.Feed.{put, answerIf, feedOf, feedSliceOf, beside, sliceBeside};
+ghost use Rattle.ld2450_parser.specs.Feed.{put, answerIf, feedOf, feedSliceOf, movedOf, sliceMovedOf};
 
 // What a byte fed leaves, beside the buffer, and the targets of the frame that it completed, if any.
 pub(crate) struct Moved {
@@ -44,7 +44,7 @@ fn answer(ended: bool, held: &[u8; HELD_LEN]) -> MaybeTargets
 
 // One byte. The buffer and what is returned are those of the parser that they make up.
 pub(crate) fn feed_at(buf: &mut [u8; HELD_LEN], at: usize, stats: Stats, byte: u8) -> Moved
-    ensures moved { λ r. ⌜ (r ≡ beside (feedOf (put (now (buf .entry)) at stats) byte))
+    ensures moved { λ r. ⌜ (r ≡ movedOf (feedOf (put (now (buf .entry)) at stats) byte))
         × (now (buf .exit) ≡ feedOf (put (now (buf .entry)) at stats) byte .parser .buf) ⌝ }
 {
     let place = or_reset(at);
@@ -65,7 +65,7 @@ pub(crate) fn feed_slice_at(
     stats: Stats,
     bytes: &[u8],
 ) -> MovedSlice
-    ensures moved { λ r. ⌜ (r ≡ sliceBeside (feedSliceOf (put (now (buf .entry)) at stats) (now (bytes .entry))))
+    ensures moved { λ r. ⌜ (r ≡ sliceMovedOf (feedSliceOf (put (now (buf .entry)) at stats) (now (bytes .entry))))
         × (now (buf .exit) ≡ feedSliceOf (put (now (buf .entry)) at stats) (now (bytes .entry)) .parser .buf) ⌝ }
 {
     let place = or_reset(at);

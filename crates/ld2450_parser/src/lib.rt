@@ -103,7 +103,7 @@ impl Parser {
 // What the pieces of the stream are. The function is empty and never called: its contract pins claims of
 // specs/Pieces.antt.
 fn stream_claims()
-    ensures delivered { λ _. ⌜ DeliversWhole ⌝ }
+    ensures whole { λ _. ⌜ DeliversWhole ⌝ }
     ensures stray { λ _. ⌜ StrayBytes ⌝ }
     ensures broken { λ _. ⌜ BrokenFrames ⌝ }
 {}

@@ -5,7 +5,7 @@ use wire::bump;
 ghost use mathlib.Core.Path.{_≡_};
 ghost use Prim.Native.Nat.{_≤_};
 ghost use Rattle.ld2450_parser.specs.Feed.{orReset, dueAt, continued, ended, abandoned, started};
-ghost use Rattle.ld2450_parser.specs.Feed.{expected, stored, stepOf};
+ghost use Rattle.ld2450_parser.specs.Feed.{whereDue, stored, stepOf};
 
 // How many bytes of a frame are there after a byte, the counters, and whether it ended a frame.
 pub(crate) struct Stepped {
@@ -99,9 +99,9 @@ fn end(stats: Stats) -> Stepped
 }
 
 // A byte where one of the header or the tail is due. The last of the tail ends the frame.
-fn expect(at: usize, stats: Stats, byte: u8) -> Stepped
+fn match_due(at: usize, stats: Stats, byte: u8) -> Stepped
     requires { ⌜ at ≤ 29 ⌝ }
-    ensures stepped { λ r. ⌜ r ≡ expected at stats byte ⌝ }
+    ensures stepped { λ r. ⌜ r ≡ whereDue at stats byte ⌝ }
 {
     if byte != due(at) {
         return start(abandon(stats, at), byte);
@@ -118,11 +118,11 @@ pub(crate) fn step(buf: &mut [u8; HELD_LEN], at: usize, stats: Stats, byte: u8) 
     ensures stepped { λ r. ⌜ (r ≡ stepOf at stats byte) × (now (buf .exit) ≡ stored at (now (buf .entry)) byte) ⌝ }
 {
     if at < 4 {
-        return expect(at, stats, byte);
+        return match_due(at, stats, byte);
     }
     if at < 28 {
         buf[at - 4] = byte;
         return continued(at + 1, stats);
     }
-    expect(at, stats, byte)
+    match_due(at, stats, byte)
 }

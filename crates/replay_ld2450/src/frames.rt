@@ -36,7 +36,7 @@ pub fn fields(out: &mut Text, taken: usize, op: u8, argument: &[u8]) -> usize {
     }
 }
 
-// Op 30, on the bytes of a frame.
+// Op 30, on any bytes.
 fn read(out: &mut Text, taken: usize, bytes: &[u8]) -> usize {
     let read = read_targets(bytes);
     let outcome = read.outcome;

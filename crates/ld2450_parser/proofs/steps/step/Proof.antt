@@ -8,7 +8,7 @@ use Rattle.ld2450_parser.proofs.steps.step.Tie as tie
 
 returns : tie.Need-returns
 unfolding stepOf stored
-returns c = rw (c .expect .ensures, lt-ltb _ _ (c .before .if1 .taken)) (refl, refl)
+returns c = rw (c .match-due .ensures, lt-ltb _ _ (c .before .if1 .taken)) (refl, refl)
 
 returns-2 : tie.Need-returns-2
 unfolding stepOf stored
@@ -20,7 +20,7 @@ returns-3 : tie.Need-returns-3
 unfolding stepOf stored
 returns-3 c =
     let far = c .before in
-    rw (c .expect2 .ensures, le-ltb _ _ (far .before .if1 .left), le-ltb _ _ (far .if2 .left)) (refl, refl)
+    rw (c .match-due2 .ensures, le-ltb _ _ (far .before .if1 .left), le-ltb _ _ (far .if2 .left)) (refl, refl)
 
 pub step-spec : {M : Type 1} → statement M
 step-spec =

@@ -1,12 +1,12 @@
--- `ld2450_parser::expect` meets its contract: its tests are the definition's. Assumes nothing.
+-- `ld2450_parser::match_due` meets its contract: its tests are the definition's. Assumes nothing.
 use borrow.Author.Needs.{needs}
 use borrow.Author.Tests.{eq-eqb, ne-eqb, lt-ltb, le-ltb}
-use Rattle.ld2450_parser.specs.Feed.{expected}
-use Rattle.ld2450_parser.proofs.steps.expect.Statement.{statement}
-use Rattle.ld2450_parser.proofs.steps.expect.Tie as tie
+use Rattle.ld2450_parser.specs.Feed.{whereDue}
+use Rattle.ld2450_parser.proofs.steps.match_due.Statement.{statement}
+use Rattle.ld2450_parser.proofs.steps.match_due.Tie as tie
 
 returns : tie.Need-returns
-unfolding expected
+unfolding whereDue
 returns c =
     let other = c .before .before in
     rw (
@@ -17,7 +17,7 @@ returns c =
     )
 
 returns-2 : tie.Need-returns-2
-unfolding expected
+unfolding whereDue
 returns-2 c =
     let more = c .before in
     let came = more .before in
@@ -29,7 +29,7 @@ returns-2 c =
     )
 
 returns-3 : tie.Need-returns-3
-unfolding expected
+unfolding whereDue
 returns-3 c =
     let last = c .before in
     let came = last .before in
@@ -40,8 +40,8 @@ returns-3 c =
       le-ltb _ _ (last .if2 .left),
     )
 
-pub expect-spec : {M : Type 1} → statement M
-expect-spec =
+pub match-due-spec : {M : Type 1} → statement M
+match-due-spec =
     tie.close
     (tie.spec
     (λ c κs. search needs)
