@@ -36,7 +36,7 @@ pub mod Feeds
 pub mod Resumed
 -- What every byte fed keeps, bytes fed up to a frame's end keep.
 pub mod Until
--- A slice call that settles the state first.
+-- A slice call that resets first what is out of range.
 pub mod Still
 -- What a lawful engine's claims are made of.
 pub mod Claimed

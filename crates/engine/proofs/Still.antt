@@ -1,5 +1,5 @@
--- A slice call that first settles the state, as one that resets what is out of range: where settling changes nothing
--- that a feed sees, the call does what its bytes do from the state itself.
+-- A slice call that resets first what is out of range (`still`): where that changes nothing that a feed sees, the call
+-- does what its bytes do from the state itself.
 use mathlib.Core.Path.{_≡_, ap, _∙_}
 use mathlib.Core.List.{List, [], _∷_}
 use Prim.Native.Nat.{ℕ}

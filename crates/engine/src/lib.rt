@@ -1,5 +1,6 @@
 // What any parser over a division owes, whatever module it reads: demand 3 of document 01 (specs/Fulfilled.antt), and
-// what follows from it. It is definitions and laws, and has no code: the crate `parser` pins the demand for the LD2410.
+// what follows from it. It is definitions and laws, and has no code: the crate `parser` pins the demand for the LD2410,
+// `ld2450_parser` for the LD2450.
 // The function here is empty: its contract pins what calls and their stretches are.
 ghost use Rattle.engine.specs.Claims.{HistoryAppend, StretchesJoined, StretchOfCall};
 

@@ -78,7 +78,7 @@ module _ (st : Stats) (cap : Capped st) (d : List ℕ) where
 
   -- A byte tried as the first of a frame: AA begins one, any other is stray.
   module _ (l : length d ≡ 24) (b : ℕ) where
-    pub start-follows : Follows st (started st b) d (Scanner.start link b)
+    start-follows : Follows st (started st b) d (Scanner.start link b)
     unfolding started
     start-follows = go (eqb b 0xAA) refl
       where

@@ -18,7 +18,7 @@ use Rattle.ld2450_parser.specs.declared.MaybeTargets.{MaybeTargets}
 use Rattle.ld2450_parser.specs.declared.FedSlice.{FedSlice}
 use Rattle.ld2450_parser.specs.declared.steps.Stepped.{Stepped}
 
-abbrev pub sliceTo : Parser → ℕ → MaybeTargets → FedSlice
+abbrev sliceTo : Parser → ℕ → MaybeTargets → FedSlice
 sliceTo p n a = record { parser = p; answer = record { count = n; frame = a } }
 
 abbrev later : ℕ → FedSlice → FedSlice
