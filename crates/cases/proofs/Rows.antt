@@ -2,10 +2,13 @@
 -- compared with what it says; that the scanner's pieces are a division is a law of the crate `framing`.
 use mathlib.Core.Path.{_≡_, refl, subst, ap}
 use mathlib.Core.List.{List, _++_, map}
-use mathlib.Core.Bool.{Bool, true, false}
+use mathlib.Core.Bool.{Bool, true, not}
 use Prim.Native.Nat.{ℕ}
 use native.Mathlib.Omega.{arith}
 use lib.ListN.{length}
+use borrow.Author.Tests.{not-true}
+use Rattle.refusal.specs.declared.Error.the-variants.{UnknownCommand}
+use Rattle.wire.specs.Number.{le16At}
 use Rattle.wire.specs.Counter.{bumped}
 use Rattle.wire.specs.Equal.{sameBytes}
 use Rattle.wire.specs.Family.{headerOf, framed}
@@ -36,6 +39,9 @@ use Rattle.writer.specs.Written.{writeResult, bufferAfter, written}
 use Rattle.command.specs.Command.{commandFrame, encodable, unsupported}
 use Rattle.cursor.specs.CommandFrame.{dataWith}
 use Rattle.command_reader.specs.Read.{is-command}
+use Rattle.command_reader.specs.CommandFrame.{IsCommandFrame, numberIn}
+use Rattle.command_reader.specs.Candidate.{candidate, candidateIn}
+use Rattle.command_reader.proofs.CommandRead.{frame-command, read-unencodable}
 use Rattle.command_reader.specs.declared.CommandResult.the-variants as Read
 use Rattle.cases.specs.Row.{Numbers, addedUp, countedBy, Stream, StreamHolds, Run, RunHolds}
 use Rattle.cases.specs.Row.{CommandRow, encodes, parses, CommandHolds, stream, run, command, Holds}
@@ -95,7 +101,8 @@ run-holds : (r : Run) → ran r ≡ told r → RunHolds r
 run-holds r e = record { done = ap (λ (x : Ran). x .history) e; counted = ap (λ (x : Ran). x .numbers) e }
 
 -- A command's row with its answer and its buffer as computed, and as it stands. A row of the reader is so if the
--- command that it gives encodes to its bytes.
+-- command that it gives encodes to its bytes; or, of 5, if these are the frame of a command that the module does not
+-- take.
 abbrev done : CommandRow → Bool × CommandRow
 done (encodes c before answer after) = (
   true,
@@ -103,22 +110,25 @@ done (encodes c before answer after) = (
       (bufferAfter (unsupported c) (commandFrame c) before),
 )
 done (parses s (Read.Ok c)) = (encodable c, parses (commandFrame c) (Read.Ok c))
-done (parses s (Read.Err e)) = (false, parses s (Read.Err e))
+done (parses s (Read.Err e)) =
+    (not (encodable (candidateIn s)), parses (commandFrame (candidateIn s)) (Read.Err UnknownCommand))
 
 abbrev stated : CommandRow → Bool × CommandRow
 stated r = (true, r)
 
 commands-computed : map done commands ≡ map stated commands
-unfolding framed dataWith writeResult bufferAfter written
+unfolding framed dataWith writeResult bufferAfter written candidateIn candidate numberIn le16At
 commands-computed = refl
 
 command-holds : (r : CommandRow) → done r ≡ stated r → CommandHolds r
 command-holds (encodes c before answer after) e = let f = ap (λ x. x .1) e in (cc, cc)
 command-holds (parses s (Read.Ok c)) e = let f = ap (λ x. x .1) e in is-command c (ap (λ x. x .0) e, cc)
 command-holds (parses s (Read.Err r)) e =
-    let f = ap (λ x. x .0) e in
-    let z : _≡_ {A = ℕ} 0 1 = cc in
-    absurd (omega arith)
+    let f = ap (λ x. x .1) e in
+    let h : r ≡ UnknownCommand = cc in
+    let same : commandFrame (candidateIn s) ≡ s = cc in
+    let is-frame = subst IsCommandFrame same (frame-command (candidateIn s)) in
+    rw h (read-unencodable s is-frame (not-true (encodable (candidateIn s)) (ap (λ x. x .0) e)))
 
 -- The table is made of the three.
 pub all-hold : AllHold

@@ -1,5 +1,5 @@
 -- The theorem: every row of the table holds. src/lib.rt pins it.
---   table     document 01's streams, runs of calls, and its commands
+--   table     streams, runs of calls and commands of document 01, and what document 02 adds to them
 --   AllHold   each of its rows holds
 use mathlib.Core.List.{List, _++_, map}
 use Rattle.wire.specs.Bytes.{Every}

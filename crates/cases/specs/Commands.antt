@@ -1,18 +1,21 @@
--- The command rows of document 01, "Bytes to try". Buffers are full of 55 before, so that what stays is seen.
+-- The command rows of document 01, "Bytes to try", and those of document 02's item 7. Buffers are full of 55 before, so
+-- that what stays is seen.
 --   enableFrame   "`EnableConfig` writes FD FC FB FA 04 00 FF 00 01 00 04 03 02 01"
 --   endFrame      the frame of `EndConfig`, which has no value
 --   hundredFrame  the frame of `setting 100 100`: "Three records, number 0, 1, 2 (two bytes) and value (four)"
+--   gatesFrame m s  the frame of `reaching m s`
 --   buffer n      a buffer of n bytes
 --   setting m s   the `SetSensitivity` of gate 3 to m and s
+--   reaching m s  the `SetMaxGates` of the farthest gates m and s, and 5 seconds
 --   commands      the rows
 use mathlib.Core.List.{List, [], _∷_, _++_}
 use Prim.Native.Nat.{ℕ}
 use lib.ListN.{replicate}
-use Rattle.refusal.specs.declared.Error.the-variants.{Unsupported, BufferTooSmall}
+use Rattle.refusal.specs.declared.Error.the-variants.{Unsupported, BufferTooSmall, UnknownCommand}
 use Rattle.writer.specs.declared.WriteResult.the-variants as Write
 use Rattle.command.specs.declared.setting.Gate.the-variants.{Index}
 use Rattle.command.specs.declared.Command.{Command}
-use Rattle.command.specs.declared.Command.the-variants.{EnableConfig, EndConfig, SetSensitivity}
+use Rattle.command.specs.declared.Command.the-variants.{EnableConfig, EndConfig, SetMaxGates, SetSensitivity}
 use Rattle.command_reader.specs.declared.CommandResult.the-variants as Read
 use Rattle.cases.specs.Row.{CommandRow, encodes, parses}
 
@@ -26,11 +29,18 @@ abbrev pub hundredFrame : List ℕ
 hundredFrame = 0xFD ∷ 0xFC ∷ 0xFB ∷ 0xFA ∷ 0x14 ∷ 0x00 ∷ 0x64 ∷ 0x00 ∷ 0x00 ∷ 0x00 ∷ 0x03 ∷ 0x00 ∷ 0x00 ∷ 0x00 ∷ 0x01
     ∷ 0x00 ∷ 0x64 ∷ 0x00 ∷ 0x00 ∷ 0x00 ∷ 0x02 ∷ 0x00 ∷ 0x64 ∷ 0x00 ∷ 0x00 ∷ 0x00 ∷ 0x04 ∷ 0x03 ∷ 0x02 ∷ 0x01 ∷ []
 
+abbrev pub gatesFrame : (moving stationary : ℕ) → List ℕ
+gatesFrame m s = 0xFD ∷ 0xFC ∷ 0xFB ∷ 0xFA ∷ 0x14 ∷ 0x00 ∷ 0x60 ∷ 0x00 ∷ 0x00 ∷ 0x00 ∷ m ∷ 0x00 ∷ 0x00 ∷ 0x00 ∷ 0x01
+    ∷ 0x00 ∷ s ∷ 0x00 ∷ 0x00 ∷ 0x00 ∷ 0x02 ∷ 0x00 ∷ 0x05 ∷ 0x00 ∷ 0x00 ∷ 0x00 ∷ 0x04 ∷ 0x03 ∷ 0x02 ∷ 0x01 ∷ []
+
 abbrev pub buffer : ℕ → List ℕ
 buffer n = replicate n 0x55
 
 abbrev pub setting : (moving stationary : ℕ) → Command
 setting m s = SetSensitivity (Index 3) m s
+
+abbrev pub reaching : (moving stationary : ℕ) → Command
+reaching m s = SetMaxGates m s 5
 
 abbrev pub commands : List CommandRow
 commands =
@@ -51,4 +61,25 @@ commands =
     ∷ encodes EndConfig (buffer 12) (Write.Ok 12) endFrame
     -- not the document's: the reader, on the bytes that `EnableConfig` writes
     ∷ parses enableFrame (Read.Ok EnableConfig)
+    -- "Give 2 for a farthest gate of 0 or 1", moving or stationary, even with an empty buffer
+    ∷ encodes (reaching 1 8) [] (Write.Err Unsupported) []
+    ∷ encodes (reaching 8 1) [] (Write.Err Unsupported) []
+    -- and with a buffer that would do, which stays as it was
+    ∷ encodes (reaching 0 8) (buffer 30) (Write.Err Unsupported) (buffer 30)
+    ∷ encodes (reaching 8 0) (buffer 30) (Write.Err Unsupported) (buffer 30)
+    -- "in the place where gates above 8 get it"
+    ∷ encodes (reaching 9 8) [] (Write.Err Unsupported) []
+    ∷ encodes (reaching 8 9) [] (Write.Err Unsupported) []
+    -- gates 2 to 8 pass, and are read again
+    ∷ encodes (reaching 2 8) (buffer 30) (Write.Ok 30) (gatesFrame 2 8)
+    ∷ encodes (reaching 8 2) (buffer 29) (Write.Err (BufferTooSmall 30)) (buffer 29)
+    ∷ encodes (reaching 3 4) [] (Write.Err (BufferTooSmall 30)) []
+    ∷ encodes (reaching 4 3) [] (Write.Err (BufferTooSmall 30)) []
+    ∷ encodes (reaching 5 6) [] (Write.Err (BufferTooSmall 30)) []
+    ∷ encodes (reaching 6 5) [] (Write.Err (BufferTooSmall 30)) []
+    ∷ encodes (reaching 7 7) [] (Write.Err (BufferTooSmall 30)) []
+    ∷ parses (gatesFrame 2 8) (Read.Ok (reaching 2 8))
+    -- "the command reader gives 5 for such bytes"
+    ∷ parses (gatesFrame 1 8) (Read.Err UnknownCommand)
+    ∷ parses (gatesFrame 8 0) (Read.Err UnknownCommand)
     ∷ []

@@ -2,7 +2,8 @@
 --   wordOf c         the command's word
 --   valueOf c        what stands after it: nothing, a two-byte number, or the values of three records
 --   commandFrame c   the command's frame
---   encodable c      whether the module takes the command's values: gates 0 to 8, sensitivities 0 to 100
+--   encodable c      whether the module takes the command's values: gates 0 to 8, farthest gates 2 to 8, sensitivities
+--                    0 to 100
 --   unsupported c    refusal 2, unless it does
 use mathlib.Core.List.{List}
 use mathlib.Core.Bool.{Bool, true, false, _&&_}

@@ -6,7 +6,7 @@
 --   indexOf b       the selection index of a baud rate, "index 1 to 8"
 --   baudOf i        the baud rate with the selection index i, if there is one
 --   rateOf b        its bits per second
-use mathlib.Core.Bool.{Bool, true, cond}
+use mathlib.Core.Bool.{Bool, true, cond, _&&_}
 use Prim.Native.Nat.{ℕ}
 use lib.Dec.{eqb, leb}
 use Rattle.command.specs.declared.setting.Gate.{Gate}
@@ -21,10 +21,12 @@ abbrev pub gateValue : Gate → ℕ
 gateValue (Index i) = i
 gateValue All = 0xFFFF
 
--- "Gates run 0 to 8"; of the farthest: "the paper gives 2 to 8; the Rust takes 0 to 8"
+-- "The paper gives `SetMaxGates` as 2 to 8"; document 02, item 7: "Give 2 for a farthest gate of 0 or 1, in the place
+-- where gates above 8 get it"
 abbrev pub farthest : ℕ → Bool
-farthest i = leb i 8
+farthest i = leb 2 i && leb i 8
 
+-- "Gates run 0 to 8", "hexadecimal FFFF for all"
 abbrev pub gateKnown : Gate → Bool
 gateKnown (Index i) = leb i 8
 gateKnown All = true

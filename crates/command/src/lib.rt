@@ -19,6 +19,7 @@ ghost use lib.ListN.{length};
 ghost use Rattle.writer.specs.Written.{writeResult, bufferAfter, WriteCauses};
 ghost use Rattle.cursor.specs.CommandFrame.{sizeWith};
 ghost use Rattle.command.specs.Command.{wordOf, valueOf, commandFrame, encodable, unsupported};
+ghost use Rattle.command.specs.Claims.{FarthestGates};
 
 // A command to the module. Every one but `EnableConfig` is sent between `EnableConfig` and `EndConfig`.
 pub enum Command {
@@ -26,7 +27,7 @@ pub enum Command {
     EnableConfig,
     // Leave it and resume reporting.
     EndConfig,
-    // Farthest moving and stationary gates, and how many seconds a target stays reported after it leaves.
+    // Farthest moving and stationary gates, 2 to 8, and how many seconds a target stays reported after it leaves.
     SetMaxGates {
         moving: u8,
         stationary: u8,
@@ -152,6 +153,7 @@ impl Command {
             (now (out .entry)) ⌝ }
         ensures causes { λ r. ⌜ WriteCauses 2 (encodable self ≡ false) (commandFrame self)
             (length (now (out .entry))) r ⌝ }
+        ensures farthest { λ r. ⌜ FarthestGates self r ⌝ }
     {
         if !self.encodable() {
             return WriteResult::Err(Error::Unsupported);

@@ -6,6 +6,9 @@ ghost use Rattle.command.specs.Setting.{gateValue, gateKnown, farthest, 
 // Highest gate index accepted in a command.
 const MAX_GATE: u8 = 8;
 
+// Lowest farthest gate accepted in `Command::SetMaxGates`.
+const MIN_FARTHEST: u8 = 2;
+
 // Highest sensitivity accepted in a command.
 const MAX_SENSITIVITY: u8 = 100;
 
@@ -107,11 +110,11 @@ impl Baud {
     }
 }
 
-// Whether a gate may be the farthest: 0 to 8, as the Rust has it; the paper begins at 2.
+// Whether a gate may be the farthest: 2 to 8, as the paper has it; the Rust begins at 0.
 pub(crate) fn may_be_farthest(gate: u8) -> bool
     ensures tested { λ r. ⌜ r ≡ farthest gate ⌝ }
 {
-    gate <= MAX_GATE
+    MIN_FARTHEST <= gate && gate <= MAX_GATE
 }
 
 // Whether both values are sensitivities.

@@ -14,6 +14,7 @@ use Rattle.cursor.specs.CommandFrame.{dataWith}
 use Rattle.command.specs.Command.{commandFrame, encodable}
 use Rattle.command_reader.specs.CommandFrame.{numberIn}
 use Rattle.command_reader.specs.Candidate.{gateFor, baudFor, candidate, candidateIn}
+use Rattle.command.proofs.Farthest.{farthest-most}
 use Rattle.command.specs.declared.setting.Gate.{Gate}
 use Rattle.command.specs.declared.setting.Gate.the-variants.{Index, All}
 use Rattle.command.specs.declared.setting.Baud.{Baud}
@@ -25,7 +26,7 @@ use Rattle.command.specs.declared.Command.the-variants.{EngineeringMode, SetSen
 use Rattle.command.specs.declared.Command.the-variants.{FactoryReset, Restart, Bluetooth, ReadMac}
 
 -- A number of at most one byte is the lowest byte of the number that its bytes are.
-low-byte : (x : ℕ) → x ≤ 255 → little (x % 256 ∷ x / 256 % 256 ∷ []) % 256 ≡ x
+pub low-byte : (x : ℕ) → x ≤ 255 → little (x % 256 ∷ x / 256 % 256 ∷ []) % 256 ≡ x
 low-byte x h = omega arith
 
 gate-back : (g : Gate) → gateKnown g ≡ true → gateFor (little (gateValue g % 256 ∷ gateValue g / 256 % 256 ∷ [])) ≡ g
@@ -55,8 +56,8 @@ candidate-written (SetMaxGates m s n) e =
     let a = and-eq-true-iff (leb n 65535) (farthest m && farthest s) .0 e in
     let b = and-eq-true-iff (farthest m) (farthest s) .0 (a .1) in
     rw (
-      low-byte m (omega (arith, leb-true m 8 (b .0))),
-      low-byte s (omega (arith, leb-true s 8 (b .1))),
+      low-byte m (omega (arith, farthest-most m (b .0))),
+      low-byte s (omega (arith, farthest-most s (b .1))),
       little-two n (omega (arith, leb-true n 65535 (a .0))),
     )
 candidate-written ReadParameters e = refl

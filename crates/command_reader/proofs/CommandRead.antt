@@ -11,13 +11,13 @@ use lib.ListN.{take}
 use Rattle.wire.specs.Number.{little}
 use Rattle.wire.specs.declared.Kind.the-variants as Family
 use Rattle.refusal.specs.Refusal.{accepted}
-use Rattle.refusal.specs.declared.Error.the-variants.{InvalidFormat}
+use Rattle.refusal.specs.declared.Error.the-variants.{InvalidFormat, UnknownCommand}
 use Rattle.cursor.specs.CommandFrame.{dataWith}
 use Rattle.wire.proofs.Framed.{framed-length}
 use Rattle.command.proofs.Frames.{frame-bounds}
 use Rattle.command_reader.specs.CommandFrame.{IsCommandFrame, ackBit}
 use Rattle.command_reader.proofs.CommandFrames.{framed-command}
-use Rattle.command.specs.Command.{wordOf, valueOf, commandFrame}
+use Rattle.command.specs.Command.{wordOf, valueOf, commandFrame, encodable}
 use Rattle.command.specs.declared.Command.{Command}
 use Rattle.command.specs.declared.Command.the-variants.{EnableConfig, EndConfig, SetMaxGates, ReadParameters}
 use Rattle.command.specs.declared.Command.the-variants.{EngineeringMode, SetSensitivity, ReadFirmware, SetBaud}
@@ -28,7 +28,7 @@ use Rattle.command_reader.specs.Read.{ReadCauses}
 use Rattle.command_reader.specs.declared.CommandResult.{CommandResult}
 use Rattle.command_reader.specs.declared.CommandResult.the-variants.{Ok, Err}
 use Rattle.command_reader.proofs.Candidates.{candidate-written}
-use Rattle.command_reader.proofs.Encodes.{encodes-sound, encodes-complete}
+use Rattle.command_reader.proofs.Encodes.{encodes-sound, encodes-complete, unencodable}
 
 -- No command's word has the ACK bit.
 word-clear : (c : Command) → ackBit (little (take 2 (dataWith (wordOf c) (valueOf c)))) ≡ 0
@@ -48,7 +48,7 @@ word-clear (Bluetooth on) = refl
 word-clear ReadMac = refl
 
 -- So every command has the frame of a command.
-frame-command : (c : Command) → IsCommandFrame (commandFrame c)
+pub frame-command : (c : Command) → IsCommandFrame (commandFrame c)
 frame-command c =
     let d = dataWith (wordOf c) (valueOf c) in
     let size = framed-length Family.Command d in
@@ -99,6 +99,10 @@ module _ (s : List ℕ) where
       go : (b : Bool) → encodesTo s (candidateIn s) ≡ b → ReadTo s (ifEncodesTo s (candidateIn s))
       go true e = rw e (is-command (candidateIn s) (encodes-sound s (candidateIn s) e))
       go false e = rw e (is-unknown a (none-encodes e))
+
+  -- The frame of a command whose values the module does not take.
+  pub read-unencodable : IsCommandFrame s → encodable (candidateIn s) ≡ false → ReadTo s (Err UnknownCommand)
+  read-unencodable a e = rw (unencodable s (candidateIn s) e) at (read-valid a)
 
   -- Each number is given exactly in its cause.
   pub read-causes : {r : CommandResult} → ReadTo s r → ReadCauses s r

@@ -9,3 +9,5 @@ pub mod Encodes
 pub mod CommandRead
 -- The encoder and the reader agree.
 pub mod RoundTrip
+-- A farthest gate of 0 or 1 in the bytes.
+pub mod Near

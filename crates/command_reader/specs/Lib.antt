@@ -1,3 +1,4 @@
 pub mod Candidate
+pub mod Claims
 pub mod Read
 pub mod CommandFrame

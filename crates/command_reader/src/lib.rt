@@ -18,6 +18,7 @@ ghost use Rattle.writer.specs.RoundTrip.{RoundTrip};
 ghost use Rattle.command.specs.declared.Command.{Command};
 ghost use Rattle.command_reader.specs.Candidate.{gateFor, baudFor, candidate, candidateIn, ifEncodesTo};
 ghost use Rattle.command_reader.specs.Read.{ReadTo, OneAnswer, ReadCauses, commands};
+ghost use Rattle.command_reader.specs.Claims.{NearGates};
 
 // Longest frame of a command.
 const MAX_COMMAND: usize = 30;
@@ -125,6 +126,7 @@ pub fn read_command(bytes: &[u8]) -> CommandResult
     ensures alone { λ _. ⌜ OneAnswer (now (bytes .entry)) ⌝ }
     ensures causes { λ r. ⌜ ReadCauses (now (bytes .entry)) r ⌝ }
     ensures round { λ _. ⌜ ((c : Command) → RoundTrip commands c) ⌝ }
+    ensures near { λ r. ⌜ NearGates (now (bytes .entry)) r ⌝ }
 {
     if !is_command_frame(bytes) {
         return CommandResult::Err(Error::InvalidFormat);

@@ -7,7 +7,7 @@ ghost use Rattle.refusal.specs.Check.{errorOf, outcomeOf};
 pub enum Error {
     // A layout that does not fit, another command's acknowledgement, a short payload.
     InvalidFormat,
-    // An unknown report type; a command's gate or sensitivity that is too large.
+    // An unknown report type; a command's gate or sensitivity that is too large; a farthest gate of 0 or 1.
     Unsupported,
     // The module acknowledged with a failure.
     Hardware,

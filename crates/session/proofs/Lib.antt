@@ -6,6 +6,8 @@ pub mod Calls
 pub mod Moved
 -- A call is the one move of the machine, and each number of `send` has its cause.
 pub mod Caused
+-- Farthest gates: 2 in an open session alone.
+pub mod Farthest
 -- What `EnableConfig` opens, `EndConfig` closes.
 pub mod Exchanges
 -- What `send` answers and leaves.

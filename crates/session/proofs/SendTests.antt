@@ -13,18 +13,21 @@ use Rattle.session.specs.declared.Sent.{Sent}
 use Rattle.session.specs.Session.{isBusy, needsOpen, refusedBy, encodedBy, sendOf, bufferOf}
 use Rattle.session.specs.Returned.{returnedSend}
 use Rattle.session.specs.Machine.{send, sent}
-use Rattle.session.specs.Claims.{Called, SendCauses}
+use Rattle.session.specs.Claims.{Called, SendCauses, FarthestSent}
 use Rattle.session.proofs.Caused.{send-causes, called-send}
+use Rattle.session.proofs.Farthest.{farthest-sent}
 
 module _ (s : Session) (c : Command) (out : List ℕ) (r : Sent) where
-  -- What `send` has to show: its answer, its buffer, the causes, and that it is a move.
+  -- What `send` has to show: its answer, its buffer, the causes, that it is a move, and the farthest gates.
   abbrev pub Sends : List ℕ → Type 0
   Sends left = (r ≡ sendOf s c (length out)) × ((left ≡ bufferOf s c out)
       × (SendCauses s c (length out) (r .answer)
-      × Called s (send c out) (r .session) (sent (returnedSend (r .answer)) left)))
+      × (Called s (send c out) (r .session) (sent (returnedSend (r .answer)) left) × FarthestSent s c (r .answer))))
 
   sends : (left : List ℕ) → r ≡ sendOf s c (length out) → left ≡ bufferOf s c out → Sends left
-  sends left p q = (p, (q, (rw p (send-causes s c out), rw (p, q) (called-send s c out))))
+  sends left p q =
+      let causes : SendCauses s c (length out) (r .answer) = rw p (send-causes s c out) in
+      (p, (q, (causes, (rw (p, q) (called-send s c out), farthest-sent s c (length out) causes))))
 
   pub sends-busy : isBusy s ≡ true → r ≡ refusedBy Why.Busy s → Sends out
   unfolding sendOf bufferOf

@@ -6,10 +6,12 @@
 --   AnyRun s         so are any events, in any number and order
 --   AnySession       from any session, made by hand too
 --   SendCauses s c n r   each number is returned exactly in its cause, where the command c is sent into n bytes
+--   OutsideRefused s m t r   in the session s the farthest gates m and t get 2 exactly if it is open and one is outside
+--   FarthestSent s c r   document 02, item 7: so does the answer r to the command c, if it has farthest gates
 --   Success c f      the frame f acknowledges the command c with success
 --   OpensAndCloses s what `EnableConfig` opens from s, `EndConfig` closes: the claim is about something
 use mathlib.Core.Path.{_≡_}
-use mathlib.Core.Logic.{_≢_, _↔_}
+use mathlib.Core.Logic.{_≢_, _↔_, _⊎_}
 use mathlib.Core.List.{List, [], _∷_}
 use mathlib.Core.Bool.{true}
 use Prim.Native.Nat.{ℕ, _≤_}
@@ -18,8 +20,9 @@ use Rattle.refusal.specs.Refusal.{Returned}
 use Rattle.frame.specs.declared.Frame.{Frame}
 use Rattle.frame.specs.declared.FrameKind.the-variants as Is
 use Rattle.command.specs.Command.{wordOf, commandFrame}
+use Rattle.command.specs.Claims.{Outside}
 use Rattle.command.specs.declared.Command.{Command}
-use Rattle.command.specs.declared.Command.the-variants.{EnableConfig, EndConfig}
+use Rattle.command.specs.declared.Command.the-variants.{EnableConfig, EndConfig, SetMaxGates}
 use Rattle.engine.specs.Runs.{Machine, history, final}
 use Rattle.session.specs.declared.Session.{Session}
 use Rattle.session.specs.declared.Session.the-variants.{Closed, Open}
@@ -63,6 +66,14 @@ pub record SendCauses (s : Session) (c : Command) (n : ℕ) (r : SendResult) : T
   pub refused : (q : Returned ℕ) → (returnedSend r ≡ q) × (q .number ≢ 0) ↔ Refuses s c n q
   -- 0 is returned exactly if the command goes, its values are good and its frame fits
   pub accepted : returnedSend r .number ≡ 0 ↔ Sendable s c n
+
+-- "in the place where gates above 8 get it", so after 8 and 7
+abbrev pub OutsideRefused : Session → (moving stationary : ℕ) → SendResult → Type 0
+OutsideRefused s m t r = returnedSend r .number ≡ 2 ↔ (s ≡ Open) × (Outside m ⊎ Outside t)
+
+-- Seconds are what two bytes hold.
+abbrev pub FarthestSent : Session → Command → SendResult → Type 0
+FarthestSent s c r = (m t n : ℕ) → n ≤ 65535 → c ≡ SetMaxGates m t n → OutsideRefused s m t r
 
 abbrev pub Success : Command → Frame → Type 0
 Success c f = (f .kind ≡ Is.Ack) × ((f .ack .word ≡ wordOf c) × (f .ack .ok ≡ true))

@@ -16,7 +16,7 @@ ghost use Rattle.session.specs.Session.{sendOf, bufferOf};
 ghost use Rattle.session.specs.Returned.{returnedSend};
 ghost use Rattle.session.specs.Machine as Machine;
 ghost use Rattle.session.specs.Machine.{sent};
-ghost use Rattle.session.specs.Claims.{Called, SendCauses};
+ghost use Rattle.session.specs.Claims.{Called, SendCauses, FarthestSent};
 
 impl Session {
     // Sends a command: encodes it into the front of `out`, and answers the bytes written. Refuses with 8 while a word
@@ -28,6 +28,7 @@ impl Session {
         ensures causes { λ r. ⌜ SendCauses self command (length (now (out .entry))) (r .answer) ⌝ }
         ensures called { λ r. ⌜ Called self (Machine.send command (now (out .entry))) (r .session)
             (sent (returnedSend (r .answer)) (now (out .exit))) ⌝ }
+        ensures farthest { λ r. ⌜ FarthestSent self command (r .answer) ⌝ }
     {
         if self.is_busy() {
             return self.refused(SessionError::Busy);

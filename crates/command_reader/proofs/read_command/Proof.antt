@@ -5,17 +5,19 @@ use borrow.Author.Tests.{not-true, not-false}
 use Rattle.writer.specs.RoundTrip.{RoundTrip}
 use Rattle.command.specs.declared.Command.{Command}
 use Rattle.command_reader.specs.Read.{ReadTo, OneAnswer, ReadCauses, commands}
+use Rattle.command_reader.specs.Claims.{NearGates}
 use Rattle.command_reader.specs.declared.CommandResult.{CommandResult}
 use Rattle.command_reader.proofs.CommandRead.{read-invalid, read-valid, one-answer, read-causes}
 use Rattle.command_reader.proofs.RoundTrip.{commands-agree}
+use Rattle.command_reader.proofs.Near.{near-unknown}
 use borrow.Author.Needs.{needs}
 use Rattle.command_reader.proofs.read_command.Statement.{statement}
 use Rattle.command_reader.proofs.read_command.Tie as tie
 
 -- What is to be shown, from the answer's rule.
 shown : (s : List ℕ) (r : CommandResult) → ReadTo s r
-    → (ReadTo s r) × (OneAnswer s × (ReadCauses s r × ((c : Command) → RoundTrip commands c)))
-shown s r h = (h, (one-answer s, (read-causes s h, commands-agree)))
+    → (ReadTo s r) × (OneAnswer s × (ReadCauses s r × (((c : Command) → RoundTrip commands c) × NearGates s r)))
+shown s r h = (h, (one-answer s, (read-causes s h, (commands-agree, near-unknown s r h))))
 
 returns : tie.Need-returns
 returns c = shown _ _ (read-invalid _ _ (c .before .is-command-frame .ensures) (not-true _ (c .if1 .taken)))

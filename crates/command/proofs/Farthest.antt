@@ -1,0 +1,50 @@
+-- Which farthest gates the module takes: 2 to 8, both of them; and that the encoder gives 2 for exactly the others.
+use mathlib.Core.Path.{_≡_, refl}
+use mathlib.Core.Logic.{_↔_, _⊎_, inl, inr, ⊎-elim, ⊎-map}
+use mathlib.Core.Bool.{Bool, true, false, _&&_, and-eq-true-iff, true≢false}
+use mathlib.Core.List.{List}
+use Prim.Native.Nat.{ℕ, _≤_, _<_}
+use native.Mathlib.Omega.{arith}
+use lib.Dec.{leb}
+use borrow.Author.Tests.{lt-leb, leb-true, leb-false}
+use Rattle.writer.specs.Written.{WriteCauses}
+use Rattle.writer.specs.declared.WriteResult.{WriteResult}
+use Rattle.command.specs.Setting.{farthest}
+use Rattle.command.specs.Command.{encodable}
+use Rattle.command.specs.Claims.{Outside, FarthestGates}
+use Rattle.command.specs.declared.Command.{Command}
+use Rattle.command.specs.declared.Command.the-variants.{SetMaxGates}
+use Rattle.command.proofs.Frames.{gates-encodable}
+
+-- Two tests fail together exactly where one of them does.
+pub and-eq-false-iff : (a b : Bool) → ((a && b) ≡ false) ↔ (a ≡ false) ⊎ (b ≡ false)
+and-eq-false-iff true b = (inr, ⊎-elim (λ t. absurd (true≢false t)) (λ f. f))
+and-eq-false-iff false b = (λ f. inl refl, λ f. refl)
+
+-- A gate that may not be the farthest is outside, and the other way round.
+refused-outside : (i : ℕ) → farthest i ≡ false → Outside i
+refused-outside i e = ⊎-map (leb-false 2 i) (leb-false i 8) (and-eq-false-iff (leb 2 i) (leb i 8) .0 e)
+
+pub outside-refused : (i : ℕ) → Outside i → farthest i ≡ false
+outside-refused i h = and-eq-false-iff (leb 2 i) (leb i 8) .1 (⊎-map (lt-leb 2 i) (lt-leb i 8) h)
+
+pub farthest-most : (i : ℕ) → farthest i ≡ true → i ≤ 8
+farthest-most i e = leb-true i 8 (and-eq-true-iff (leb 2 i) (leb i 8) .0 e .1)
+
+module _ (m s n : ℕ) (h : n ≤ 65535) where
+  refused-gates : (farthest m && farthest s) ≡ false → Outside m ⊎ Outside s
+  refused-gates e = ⊎-map (refused-outside m) (refused-outside s) (and-eq-false-iff (farthest m) (farthest s) .0 e)
+
+  gates-refused : Outside m ⊎ Outside s → (farthest m && farthest s) ≡ false
+  gates-refused o = and-eq-false-iff (farthest m) (farthest s) .1 (⊎-map (outside-refused m) (outside-refused s) o)
+
+  pub unsupported-gates : (encodable (SetMaxGates m s n) ≡ false) ↔ Outside m ⊎ Outside s
+  unsupported-gates = rw (gates-encodable m s n h) (refused-gates, gates-refused)
+
+-- The encoder gives 2 to exactly these.
+pub farthest-gates : (c : Command) (f : List ℕ) (k : ℕ) {r : WriteResult} → WriteCauses 2 (encodable c ≡ false) f k r
+    → FarthestGates c r
+farthest-gates c f k w m s n h e =
+    let g = unsupported-gates m s n h in
+    let b = rw e at (w .refused) in
+    (λ q. g .0 (b .0 q), λ o. b .1 (g .1 o))
