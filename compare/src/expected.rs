@@ -1,5 +1,6 @@
 //! What our program must print, line for line. A script's answer is the model's of the division, since the original's
-//! counters stop where ours go on; a state byte is read by the model's rule, since the original knows no calibration.
+//! counters stop where ours go on; a state byte is read by the model's rule, since the original knows no calibration;
+//! farthest gates are taken by the model's rule, since the original takes 0 and 1.
 //! The LD2450's answers are a model's, since the original knows no such module. All else is the oracle's.
 
 use ld2410::access::ORIGINAL_MAX;
@@ -9,6 +10,7 @@ use crate::line;
 use crate::model::rules::{Rules, RULES};
 use crate::model::{ld2450, streams};
 use crate::oracle;
+use crate::oracle::gates::Gates;
 use crate::oracle::states::States;
 
 /// Whether an op is a script of calls, whose last line has the counters.
@@ -17,8 +19,9 @@ fn is_script(op: u8) -> bool {
 }
 
 /// Whether a model has a part in an op's answers that the original has too: they are to be held against the original's.
+/// Of ops 9 and 20 that is the original's encoder.
 pub fn is_modelled(op: u8) -> bool {
-    matches!(op, 1 | 2 | 5) || is_script(op)
+    matches!(op, 1 | 2 | 5 | 6 | 9 | 20) || is_script(op)
 }
 
 /// Appends the answer lines of a case.
@@ -35,7 +38,7 @@ pub fn answer_by(case: Case<'_>, rules: &Rules, out: &mut Vec<u8>) {
         _ => None,
     };
     if modelled.is_none() {
-        oracle::answer_by(case, States::By(rules.state), out);
+        oracle::answer_by(case, States::By(rules.state), Gates::By(rules.gates), out);
     }
 }
 

@@ -1,9 +1,11 @@
 //! Naive models: the frame writers, the command reader and the division of a stream, written from document 01 alone,
-//! the session, from document 02, item 2, the states, from its item 3, and the LD2450, from its item 6.
+//! the session, from document 02, item 2, the states, from its item 3, the LD2450, from its item 6, and the farthest
+//! gates, from its item 7.
 
 pub mod commands;
 pub mod division;
 pub mod families;
+pub mod gates;
 pub mod ld2450;
 pub mod rules;
 pub mod session;

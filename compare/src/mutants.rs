@@ -1,6 +1,7 @@
 //! Wrong variants of the expected answers, each a mistake that an implementation could make, and of the table of
 //! intended differences. The comparison must notice every one of them.
 
+mod gates;
 mod ld2450;
 mod parsers;
 mod readers;
@@ -111,6 +112,7 @@ pub fn of(op: u8) -> Vec<Mutant> {
     let mut all = readers::mutants();
     all.extend(states::mutants());
     all.extend(writers::mutants());
+    all.extend(gates::mutants());
     all.extend(streams::mutants());
     all.extend(parsers::mutants());
     all.extend(tables::mutants());

@@ -15,13 +15,24 @@ const SECONDS: [(u8, u8); 6] = [(0, 0), (1, 0), (255, 0), (0, 1), (254, 255), (2
 /// Fills that show a stray write, whichever byte it writes.
 pub const FILLS: [u8; 4] = [0x00, 0xA5, 0xFD, 0xFF];
 /// The twelve commands with arguments that pass, each at the ends of its range, and some that do not.
-pub const COMMANDS: [[u8; 6]; 27] = [
+pub const COMMANDS: [[u8; 6]; 38] = [
     [0, 0, 0, 0, 0, 0],
     [1, 0, 0, 0, 0, 0],
     [2, 0, 0, 0, 0, 0],
     [2, 8, 8, 5, 0, 0],
     [2, 8, 2, 255, 255, 0],
     [2, 1, 8, 0, 1, 0],
+    [2, 8, 1, 0, 1, 0],
+    [2, 0, 8, 5, 0, 0],
+    [2, 8, 0, 5, 0, 0],
+    [2, 1, 9, 5, 0, 0],
+    [2, 2, 8, 5, 0, 0],
+    [2, 2, 2, 5, 0, 0],
+    [2, 3, 7, 5, 0, 0],
+    [2, 4, 6, 5, 0, 0],
+    [2, 5, 5, 5, 0, 0],
+    [2, 6, 4, 5, 0, 0],
+    [2, 7, 3, 5, 0, 0],
     [2, 9, 8, 5, 0, 0],
     [2, 8, 9, 5, 0, 0],
     [3, 0, 0, 0, 0, 0],
@@ -118,7 +129,8 @@ pub fn any_command(random: &mut Random) -> [u8; 6] {
     command
 }
 
-/// The frame that a command encodes to, if there is such a command and its arguments pass.
+/// The frame that a command encodes to, if there is such a command and its arguments pass; farthest gates 0 and 1 do
+/// here, as in the original, so that there are bytes of them to read.
 fn encoded(numbers: [u8; 6]) -> Option<Vec<u8>> {
     let command = command(numbers)?;
     let mut frame = vec![0; command.encoded_len()];

@@ -137,7 +137,7 @@ fn every_number(cases: &mut Cases<'_>) {
     for number in 0..=255 {
         let firsts = if number < 14 { 0..=255 } else { 0..=1 };
         for first in firsts {
-            cases.add(&open().ask([number, first, 0, 0, 0, 0]).give_up().0);
+            cases.add(&open().ask([number, first, 8, 0, 0, 0]).give_up().0);
         }
     }
     for session in sessions() {

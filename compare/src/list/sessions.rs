@@ -13,6 +13,7 @@ use crate::station::Script;
 const ENGINEERING_OFF: [u8; 6] = [4, 0, 0, 0, 0, 0];
 const READ_PARAMETERS: [u8; 6] = [3, 0, 0, 0, 0, 0];
 const SET_MAX_GATES: [u8; 6] = [2, 8, 8, 5, 0, 0];
+const GATE_1: [u8; 6] = [2, 1, 8, 5, 0, 0];
 const GATE_9: [u8; 6] = [2, 9, 8, 5, 0, 0];
 const SENSITIVITY_101: [u8; 6] = [5, 0, 8, 101, 100, 0];
 
@@ -40,7 +41,7 @@ fn waits() -> Vec<Script> {
 /// Commands that pass and commands that do not, into buffers long enough and empty: refused while closed or waiting.
 fn refused_commands() -> Vec<Script> {
     let mut commands = ASKED.to_vec();
-    commands.extend([END, GATE_9, SENSITIVITY_101]);
+    commands.extend([END, GATE_1, GATE_9, SENSITIVITY_101]);
     let asked = |script: Script, &numbers: &_| script.ask(numbers).send(numbers, 0, 0);
     let all = |session: Script| commands.iter().fold(session, asked).send(ENABLE, 0, 0).ask(ENABLE);
     let mut sessions = waits();
@@ -89,7 +90,7 @@ fn given_up() -> Vec<Script> {
 /// Buffers of every length around the frame's, from open, and for `EnableConfig` from closed.
 fn buffers() -> Vec<Script> {
     let mut all = Vec::new();
-    for numbers in [END, ENABLE, SET_MAX_GATES, GATE_9, SENSITIVITY_101] {
+    for numbers in [END, ENABLE, SET_MAX_GATES, GATE_1, GATE_9, SENSITIVITY_101] {
         all.extend(lengths_around(numbers).map(|length| open().send(numbers, length, 0x5A)));
     }
     all.extend(lengths_around(ENABLE).map(|length| Script::default().send(ENABLE, length, 0xFF)));

@@ -113,14 +113,14 @@ pub fn command_frames() -> Vec<Vec<u8>> {
         all.push(COMMAND.frame(&[[0xA4, 0x00], u16::to_le_bytes(on)].concat()));
     }
     for word in [0x60, 0x64] {
-        for value in [0, 2, 8, 9, 100, 101, 255, 256, 65_535, 65_536] {
+        for value in [0, 1, 2, 3, 4, 5, 6, 7, 8, 9, 100, 101, 255, 256, 65_535, 65_536] {
             all.extend(three_record_frames(word, value));
         }
     }
     all
 }
 
-/// A value in each of the three records in turn, the others 1; and in all of them.
+/// A value in each of the three records in turn, the others 2; and in all of them.
 fn three_record_frames(word: u8, value: u32) -> Vec<Vec<u8>> {
     let frame = |values: [u32; 3]| {
         let mut data = vec![word, 0x00];
@@ -130,7 +130,7 @@ fn three_record_frames(word: u8, value: u32) -> Vec<Vec<u8>> {
         }
         COMMAND.frame(&data)
     };
-    [[value, 1, 1], [1, value, 1], [1, 1, value], [value; 3]].map(frame).to_vec()
+    [[value, 2, 2], [2, value, 2], [2, 2, value], [value; 3]].map(frame).to_vec()
 }
 
 pub fn rates() -> Vec<Vec<u8>> {

@@ -3,6 +3,7 @@
 use ld2410::{Baud, Command, Gate};
 
 use super::families::{ACK_BIT, COMMAND};
+use crate::oracle::gates::Gates;
 
 /// Refusal: framing, a report header, data under two bytes, a set ACK bit.
 const LAYOUT: u8 = 1;
@@ -12,18 +13,19 @@ const NO_COMMAND: u8 = 5;
 /// The longest frame that a command has.
 const LONGEST: usize = 30;
 
-pub fn read(bytes: &[u8]) -> Result<Command, u8> {
+/// The command that encodes to these bytes, of those with such farthest gates.
+pub fn read(bytes: &[u8], gates: Gates) -> Result<Command, u8> {
     let data = COMMAND.data(bytes).ok_or(LAYOUT)?;
     let (&word, _) = data.split_first_chunk().ok_or(LAYOUT)?;
     if u16::from_le_bytes(word) & ACK_BIT != 0 {
         return Err(LAYOUT);
     }
-    candidates(bytes).into_iter().find(|command| encodes_to(command, bytes)).ok_or(NO_COMMAND)
+    candidates(bytes).into_iter().find(|&command| encodes_to(command, bytes, gates)).ok_or(NO_COMMAND)
 }
 
-fn encodes_to(command: &Command, bytes: &[u8]) -> bool {
+fn encodes_to(command: Command, bytes: &[u8], gates: Gates) -> bool {
     let mut buffer = [0; LONGEST];
-    command.encode(&mut buffer).is_ok_and(|written| &buffer[..written] == bytes)
+    gates.encode(command, &mut buffer).is_ok_and(|written| &buffer[..written] == bytes)
 }
 
 /// Every command that could encode to these bytes: a value stands in its frame at a known place, so the bytes there

@@ -3,6 +3,7 @@
 use ld2410::access::Fields as ParserFields;
 
 use super::division::{next_piece, Piece, LIMIT};
+use super::gates::may_be_farthest;
 use super::ld2450;
 use super::state::{self, State};
 use crate::oracle::streams::in_range;
@@ -16,16 +17,19 @@ pub struct Rules {
     pub add: fn(u64, usize) -> u64,
     /// Whether a parser built by hand is taken as it stands.
     pub in_range: fn(&ParserFields) -> bool,
+    /// Whether a moving and a stationary gate may be the farthest.
+    pub gates: fn(u8, u8) -> bool,
     /// The LD2450's.
     pub ld2450: ld2450::Rules,
 }
 
-/// Document 01's rules, with the counters of document 02, item 1, the states of its item 3 and the module of its item
-/// 6.
+/// Document 01's rules, with the counters of document 02, item 1, the states of its item 3, the module of its item 6
+/// and the farthest gates of its item 7.
 pub const RULES: Rules = Rules {
     state: state::from_byte,
     next_piece: |rest| next_piece(rest, LIMIT),
     add: |counter, by| (u128::from(counter) + by as u128).min(u64::MAX.into()) as u64,
     in_range,
+    gates: may_be_farthest,
     ld2450: ld2450::RULES,
 };

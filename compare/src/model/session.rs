@@ -1,8 +1,10 @@
-//! The session of document 02, item 2, sentence by sentence, over the original's commands and frames.
+//! The session of document 02, item 2, sentence by sentence, over the original's commands and frames, with farthest
+//! gates as they are given.
 
 use ld2410::{Command, Frame};
 use rusty_esp_core::prelude::Error;
 
+use crate::oracle::gates::Gates;
 use crate::oracle::values::refusal;
 
 /// New number: "a command other than `EnableConfig` in a closed session".
@@ -56,14 +58,14 @@ impl Session {
 
     /// "8 is tested first, then 7, both before 2 and 4"; the encoder tests 2 before 4. "A refused command leaves the
     /// session where it was."
-    pub fn send(&mut self, command: Command, buffer: &mut [u8]) -> Sent {
+    pub fn send(&mut self, command: Command, buffer: &mut [u8], gates: Gates) -> Sent {
         if matches!(self, Self::Opening | Self::Waiting(_) | Self::Closing) {
             return Sent { refusal: BUSY, count: 0 };
         }
         if *self == Self::Closed && command != Command::EnableConfig {
             return Sent { refusal: CLOSED, count: 0 };
         }
-        match command.encode(buffer) {
+        match gates.encode(command, buffer) {
             Ok(count) => {
                 *self = Self::after(command);
                 Sent { refusal: 0, count }

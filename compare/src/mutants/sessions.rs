@@ -2,10 +2,13 @@
 
 mod commands;
 mod frames;
+mod gates;
+mod give_ups;
 
 use ld2410::{Ack, Command, Frame};
 
 use super::{right, Mutant};
+use crate::oracle::gates::Gates;
 use crate::station::{events, Event, STATION};
 
 /// The numbers of sessions.
@@ -99,9 +102,9 @@ impl<'a> Seen<'a> {
             return None;
         };
         let needed = command.encoded_len();
-        let passes = command.encode(&mut vec![0; needed]).is_ok();
+        let passes = Gates::RIGHT.encode(command, &mut vec![0; needed]).is_ok();
         let mut buffer = vec![fill; length.into()];
-        let written = command.encode(&mut buffer).is_ok();
+        let written = Gates::RIGHT.encode(command, &mut buffer).is_ok();
         Some(match (passes, written) {
             (_, true) => (0, needed as u64, buffer),
             (true, false) => (4, needed as u64, buffer),
@@ -126,51 +129,13 @@ pub fn mutants() -> Vec<Mutant> {
     };
     let mut all = of_events(&commands::SENDING);
     all.extend(of_events(&commands::REFUSING));
+    all.extend(of_events(&gates::NEAR));
     all.extend(of_events(&frames::ENDING));
     all.extend(of_events(&frames::PASSING));
-    all.extend(of_events(&GIVING_UP));
+    all.extend(of_events(&give_ups::GIVING_UP));
     all.extend(scripts());
     all
 }
-
-const GIVING_UP: [(&str, Edit); 7] = [
-    ("a give-up keeps the wait", |seen, line| {
-        if seen.gives_up() {
-            awaits(line, seen.state, seen.word);
-        }
-    }),
-    ("a give-up from open closes", |seen, line| {
-        if seen.gives_up() && seen.state == OPEN {
-            becomes(line, CLOSED);
-        }
-    }),
-    ("a give-up while waiting returns to open", |seen, line| {
-        if seen.gives_up() && seen.state == WAITING {
-            becomes(line, OPEN);
-        }
-    }),
-    ("a give-up while closing returns to open", |seen, line| {
-        if seen.gives_up() && seen.state == CLOSING {
-            becomes(line, OPEN);
-        }
-    }),
-    ("a give-up of an opening from open returns to open", |seen, line| {
-        if seen.gives_up() && seen.state == OPENING && seen.sent_from == OPEN {
-            becomes(line, OPEN);
-        }
-    }),
-    ("a give-up keeps the awaited word", |seen, line| {
-        if seen.gives_up() {
-            let state = line[1];
-            awaits(line, state, seen.word);
-        }
-    }),
-    ("a give-up opens a closed session", |seen, line| {
-        if seen.gives_up() && seen.state == CLOSED {
-            becomes(line, OPEN);
-        }
-    }),
-];
 
 /// Mistakes in the events of a script.
 fn scripts() -> Vec<Mutant> {

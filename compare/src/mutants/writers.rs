@@ -54,11 +54,6 @@ fn encoder() -> Vec<Mutant> {
                 *on = u8::from(*on == 0);
             }
         }),
-        Mutant::numbers(6, "gates 0 and 1 are refused", |argument, line| {
-            if accepted(line) && argument[VALUE] == 2 && argument[VALUE + 1] < 2 {
-                (line[1], line[2]) = (2, 0);
-            }
-        }),
         Mutant::argument(6, "sensitivity 101 is taken", |argument| {
             if let [_, _, _, 5, _, _, moving @ 101, ..] = &mut argument[..] {
                 *moving = 100;

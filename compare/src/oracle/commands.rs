@@ -3,18 +3,31 @@
 use ld2410::{Baud, Command, Gate};
 use rusty_esp_core::prelude::Error;
 
+use super::gates::Gates;
 use super::values::refusal_of;
 use crate::case::Fields;
 use crate::line::Line;
 use crate::model;
 
-pub fn encode(argument: &[u8], out: &mut Vec<u8>) -> Option<()> {
-    let mut fields = Fields(argument);
-    let length = fields.u16()?;
-    let fill = fields.u8()?;
-    let command = command(fields.array()?)?;
+/// An argument of op 6: a command, and a buffer of this length, each byte `fill`.
+pub struct Encoding {
+    pub command: Command,
+    length: u16,
+    fill: u8,
+}
+
+impl Encoding {
+    pub fn of(argument: &[u8]) -> Option<Self> {
+        let mut fields = Fields(argument);
+        let (length, fill) = (fields.u16()?, fields.u8()?);
+        Some(Self { command: command(fields.array()?)?, length, fill })
+    }
+}
+
+pub fn encode(argument: &[u8], gates: Gates, out: &mut Vec<u8>) -> Option<()> {
+    let Encoding { command, length, fill } = Encoding::of(argument)?;
     let mut buffer = vec![fill; length.into()];
-    let result = command.encode(&mut buffer);
+    let result = gates.encode(command, &mut buffer);
     let mut line = Line::new(out, 6);
     line.number(refusal_of(&result));
     line.count(match result {
@@ -29,8 +42,8 @@ pub fn encode(argument: &[u8], out: &mut Vec<u8>) -> Option<()> {
     Some(())
 }
 
-pub fn read(bytes: &[u8], out: &mut Vec<u8>) -> Option<()> {
-    let read = model::commands::read(bytes);
+pub fn read(bytes: &[u8], gates: Gates, out: &mut Vec<u8>) -> Option<()> {
+    let read = model::commands::read(bytes, gates);
     let mut line = Line::new(out, 9);
     line.number(read.err().unwrap_or(0));
     line.bytes(&read.map_or([0; 6], numbers));
