@@ -40,14 +40,21 @@ use Rattle.command.specs.Command.{commandFrame, encodable, unsupported}
 use Rattle.cursor.specs.CommandFrame.{dataWith}
 use Rattle.command_reader.specs.Read.{is-command}
 use Rattle.command_reader.specs.CommandFrame.{IsCommandFrame, numberIn}
-use Rattle.command_reader.specs.Candidate.{candidate, candidateIn}
+use Rattle.command_reader.specs.Candidate.{candidate, candidateIn, gateFor}
 use Rattle.command_reader.proofs.CommandRead.{frame-command, read-unencodable}
 use Rattle.command_reader.specs.declared.CommandResult.the-variants as Read
+use Rattle.engine.specs.Runs.{history, final}
+use Rattle.session.specs.declared.Session.{Session}
+use Rattle.session.specs.Session.{sendOf, bufferOf, receiveOf, giveUpOf}
+use Rattle.session.specs.Machine.{Response, Conversation}
+use Rattle.session.specs.Claims.{sessionCall}
+use Rattle.session.proofs.Moved.{any-run}
 use Rattle.cases.specs.Row.{Numbers, addedUp, countedBy, Stream, StreamHolds, Run, RunHolds}
-use Rattle.cases.specs.Row.{CommandRow, encodes, parses, CommandHolds, stream, run, command, Holds}
+use Rattle.cases.specs.Row.{CommandRow, encodes, parses, CommandHolds, Talk, TalkHolds, stream, run, command, talk, Holds}
 use Rattle.cases.specs.Streams.{streams}
 use Rattle.cases.specs.Runs.{runs}
 use Rattle.cases.specs.Commands.{commands}
+use Rattle.cases.specs.Talks.{talks}
 use Rattle.cases.specs.Claims.{AllHold}
 use Rattle.cases.proofs.Agree.{rows-hold}
 
@@ -117,7 +124,7 @@ abbrev stated : CommandRow → Bool × CommandRow
 stated r = (true, r)
 
 commands-computed : map done commands ≡ map stated commands
-unfolding framed dataWith writeResult bufferAfter written candidateIn candidate numberIn le16At
+unfolding framed dataWith writeResult bufferAfter written candidateIn candidate numberIn le16At gateFor
 commands-computed = refl
 
 command-holds : (r : CommandRow) → done r ≡ stated r → CommandHolds r
@@ -130,11 +137,39 @@ command-holds (parses s (Read.Err r)) e =
     let is-frame = subst IsCommandFrame same (frame-command (candidateIn s)) in
     rw h (read-unencodable s is-frame (not-true (encodable (candidateIn s)) (ap (λ x. x .0) e)))
 
--- The table is made of the three.
+-- A session's responses and where it ends, as computed and as the row says; the machine's run is the calls'.
+record Spoken : Type 0 where
+  pub responses : List Response
+  pub left : Session
+
+abbrev spoken : Talk → Spoken
+spoken r = record {
+  responses = history sessionCall (r .start) (r .events);
+  left = final sessionCall (r .start) (r .events);
+}
+
+abbrev wanted : Talk → Spoken
+wanted r = record { responses = r .responses; left = r .left }
+
+talks-computed : map spoken talks ≡ map wanted talks
+unfolding sendOf bufferOf receiveOf giveUpOf framed dataWith writeResult bufferAfter written
+talks-computed = refl
+
+talk-holds : (r : Talk) → spoken r ≡ wanted r → TalkHolds r
+talk-holds r e = record {
+  moved = subst (λ (x : Spoken). Conversation (r .start) (r .events) (x .responses) (x .left)) e
+      (any-run (r .start) (r .events) .run);
+  responded = ap (λ (x : Spoken). x .responses) e;
+  stood = ap (λ (x : Spoken). x .left) e;
+}
+
+-- The table is made of the four.
 pub all-hold : AllHold
 all-hold =
-    every-append Holds (map stream streams) (map run runs ++ map command commands)
+    every-append Holds (map stream streams) (map run runs ++ (map command commands ++ map talk talks))
     (rows-hold found said stream Holds stream-holds streams streams-computed)
-    (every-append Holds (map run runs) (map command commands)
+    (every-append Holds (map run runs) (map command commands ++ map talk talks)
     (rows-hold ran told run Holds run-holds runs runs-computed)
-    (rows-hold done stated command Holds command-holds commands commands-computed))
+    (every-append Holds (map command commands) (map talk talks)
+    (rows-hold done stated command Holds command-holds commands commands-computed)
+    (rows-hold spoken wanted talk Holds talk-holds talks talks-computed)))

@@ -1,15 +1,16 @@
 -- The theorem: every row of the table holds. src/lib.rt pins it.
---   table     streams, runs of calls and commands of document 01, and what document 02 adds to them
+--   table     streams, runs of calls and commands of document 01, what document 02 adds to them, and its sessions
 --   AllHold   each of its rows holds
 use mathlib.Core.List.{List, _++_, map}
 use Rattle.wire.specs.Bytes.{Every}
-use Rattle.cases.specs.Row.{Row, stream, run, command, Holds}
+use Rattle.cases.specs.Row.{Row, stream, run, command, talk, Holds}
 use Rattle.cases.specs.Streams.{streams}
 use Rattle.cases.specs.Runs.{runs}
 use Rattle.cases.specs.Commands.{commands}
+use Rattle.cases.specs.Talks.{talks}
 
 abbrev pub table : List Row
-table = map stream streams ++ (map run runs ++ map command commands)
+table = map stream streams ++ (map run runs ++ (map command commands ++ map talk talks))
 
 abbrev pub AllHold : Type 0
 AllHold = Every Holds table

@@ -1,4 +1,4 @@
--- The command rows of document 01, "Bytes to try", and those of document 02's item 7. Buffers are full of 55 before, so
+-- The command rows of document 01, "Bytes to try", and its "Gates run 0 to 8"; those of request 7. Buffers are full of 55 before, so
 -- that what stays is seen.
 --   enableFrame   "`EnableConfig` writes FD FC FB FA 04 00 FF 00 01 00 04 03 02 01"
 --   endFrame      the frame of `EndConfig`, which has no value
@@ -6,16 +6,21 @@
 --   gatesFrame m s  the frame of `reaching m s`
 --   buffer n      a buffer of n bytes
 --   setting m s   the `SetSensitivity` of gate 3 to m and s
+--   sensing g     the `SetSensitivity` of the gate g to 50 and 40; sensingFrame a b, its frame, with the gate's two bytes
 --   reaching m s  the `SetMaxGates` of the farthest gates m and s, and 5 seconds
 --   commands      the rows
 use mathlib.Core.List.{List, [], _∷_, _++_}
+use mathlib.Core.Bool.{true, false}
 use Prim.Native.Nat.{ℕ}
 use lib.ListN.{replicate}
 use Rattle.refusal.specs.declared.Error.the-variants.{Unsupported, BufferTooSmall, UnknownCommand}
 use Rattle.writer.specs.declared.WriteResult.the-variants as Write
-use Rattle.command.specs.declared.setting.Gate.the-variants.{Index}
+use Rattle.command.specs.declared.setting.Gate.{Gate}
+use Rattle.command.specs.declared.setting.Gate.the-variants.{Index, All}
 use Rattle.command.specs.declared.Command.{Command}
 use Rattle.command.specs.declared.Command.the-variants.{EnableConfig, EndConfig, SetMaxGates, SetSensitivity}
+use Rattle.command.specs.declared.Command.the-variants.{SetBaud, Bluetooth}
+use Rattle.command.specs.declared.setting.Baud.the-variants.{B9600, B460800}
 use Rattle.command_reader.specs.declared.CommandResult.the-variants as Read
 use Rattle.cases.specs.Row.{CommandRow, encodes, parses}
 
@@ -38,6 +43,16 @@ buffer n = replicate n 0x55
 
 abbrev pub setting : (moving stationary : ℕ) → Command
 setting m s = SetSensitivity (Index 3) m s
+
+abbrev pub sensing : Gate → Command
+sensing g = SetSensitivity g 50 40
+
+abbrev pub sensingFrame : (low high : ℕ) → List ℕ
+sensingFrame a b = 0xFD ∷ 0xFC ∷ 0xFB ∷ 0xFA ∷ 0x14 ∷ 0x00 ∷ 0x64 ∷ 0x00 ∷ 0x00 ∷ 0x00 ∷ a ∷ b ∷ 0x00 ∷ 0x00 ∷ 0x01 ∷ 0x00
+    ∷ 0x32 ∷ 0x00 ∷ 0x00 ∷ 0x00 ∷ 0x02 ∷ 0x00 ∷ 0x28 ∷ 0x00 ∷ 0x00 ∷ 0x00 ∷ 0x04 ∷ 0x03 ∷ 0x02 ∷ 0x01 ∷ []
+
+abbrev pub numberFrame : (word value : ℕ) → List ℕ
+numberFrame w v = 0xFD ∷ 0xFC ∷ 0xFB ∷ 0xFA ∷ 0x04 ∷ 0x00 ∷ w ∷ 0x00 ∷ v ∷ 0x00 ∷ 0x04 ∷ 0x03 ∷ 0x02 ∷ 0x01 ∷ []
 
 abbrev pub reaching : (moving stationary : ℕ) → Command
 reaching m s = SetMaxGates m s 5
@@ -82,4 +97,20 @@ commands =
     -- "the command reader gives 5 for such bytes"
     ∷ parses (gatesFrame 1 8) (Read.Err UnknownCommand)
     ∷ parses (gatesFrame 8 0) (Read.Err UnknownCommand)
+    -- "Gates run 0 to 8": of `SetSensitivity` 0 and 1 too; 9 gets 2
+    ∷ encodes (sensing (Index 0)) (buffer 30) (Write.Ok 30) (sensingFrame 0x00 0x00)
+    ∷ encodes (sensing (Index 1)) (buffer 30) (Write.Ok 30) (sensingFrame 0x01 0x00)
+    ∷ encodes (sensing (Index 8)) (buffer 30) (Write.Ok 30) (sensingFrame 0x08 0x00)
+    ∷ encodes (sensing (Index 9)) (buffer 30) (Write.Err Unsupported) (buffer 30)
+    -- "00A1 `SetBaud`, index 1 to 8; 00A4 `Bluetooth`, 1 or 0"
+    ∷ encodes (SetBaud B9600) (buffer 14) (Write.Ok 14) (numberFrame 0xA1 0x01)
+    ∷ encodes (SetBaud B460800) (buffer 14) (Write.Ok 14) (numberFrame 0xA1 0x08)
+    ∷ encodes (Bluetooth true) (buffer 14) (Write.Ok 14) (numberFrame 0xA4 0x01)
+    ∷ encodes (Bluetooth false) (buffer 14) (Write.Ok 14) (numberFrame 0xA4 0x00)
+    ∷ parses (numberFrame 0xA1 0x08) (Read.Ok (SetBaud B460800))
+    -- "hexadecimal FFFF for all"
+    ∷ encodes (sensing All) (buffer 30) (Write.Ok 30) (sensingFrame 0xFF 0xFF)
+    ∷ parses (sensingFrame 0x00 0x00) (Read.Ok (sensing (Index 0)))
+    ∷ parses (sensingFrame 0x01 0x00) (Read.Ok (sensing (Index 1)))
+    ∷ parses (sensingFrame 0x09 0x00) (Read.Err UnknownCommand)
     ∷ []

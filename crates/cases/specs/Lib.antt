@@ -8,5 +8,7 @@ pub mod Streams
 pub mod Runs
 -- Document 01's commands, written and read.
 pub mod Commands
+-- Document 02's sessions.
+pub mod Talks
 -- The theorem.
 pub mod Claims

@@ -8,6 +8,8 @@
 --   RunHolds      the row is so by the parser
 --   CommandRow    a command written, its answer and the buffer before and after; or bytes read, and the answer
 --   CommandHolds  the row is so by what the contracts of `Command::encode` and `read_command` cite
+--   Talk          events on a session, the responses, and the session that they leave
+--   TalkHolds     the row is so by request 2's machine, and by what the contracts of a session cite
 --   Row, Holds    a row of any of these kinds, and when it holds
 use mathlib.Core.Path.{_≡_}
 use mathlib.Core.List.{List}
@@ -29,6 +31,10 @@ use Rattle.command.specs.Command.{commandFrame, unsupported}
 use Rattle.command_reader.specs.Read.{ReadTo}
 use Rattle.command.specs.declared.Command.{Command}
 use Rattle.command_reader.specs.declared.CommandResult.{CommandResult}
+use Rattle.engine.specs.Runs.{history, final}
+use Rattle.session.specs.declared.Session.{Session}
+use Rattle.session.specs.Machine.{Event, Response, Conversation}
+use Rattle.session.specs.Claims.{sessionCall}
 
 pub record Numbers : Type 0 where
   pub frames : ℕ
@@ -90,12 +96,27 @@ CommandHolds (encodes c before answer after) = (writeResult (unsupported c) (com
     × (bufferAfter (unsupported c) (commandFrame c) before ≡ after)
 CommandHolds (parses s answer) = ReadTo s answer
 
+pub record Talk : Type 0 where
+  pub start : Session
+  pub events : List Event
+  pub responses : List Response
+  pub left : Session
+
+pub record TalkHolds (r : Talk) : Type 0 where
+  -- the machine's rules lead from the one session to the other, with these responses
+  pub moved : Conversation (r .start) (r .events) (r .responses) (r .left)
+  -- the calls respond so, and leave that session
+  pub responded : history sessionCall (r .start) (r .events) ≡ r .responses
+  pub stood : final sessionCall (r .start) (r .events) ≡ r .left
+
 pub data Row : Type 0 where
   stream : (r : Stream) → Row
   run : (r : Run) → Row
   command : (r : CommandRow) → Row
+  talk : (r : Talk) → Row
 
 abbrev pub Holds : Row → Type 0
 Holds (stream r) = StreamHolds r
 Holds (run r) = RunHolds r
 Holds (command r) = CommandHolds r
+Holds (talk r) = TalkHolds r

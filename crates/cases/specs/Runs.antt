@@ -126,7 +126,10 @@ runs =
     -- "F4 F3, then reset: all counters 0"
     ∷ row fresh (feed 0xF4 ∷ feed 0xF3 ∷ reset ∷ [])
     (fed 0xF4 nothing ∷ fed 0xF3 nothing ∷ cleared ∷ []) (numbers 0 0 0 0 0)
-    -- document 02, item 3: "state 04 to background calibration running, 05 to done, 06 to failed", "bytes 07 and above
+    -- "`reset` forgets an unfinished frame and keeps the counters": F3 then is a stray byte
+    ∷ row fresh (feed 0x00 ∷ feed 0xF4 ∷ reset ∷ feed 0xF3 ∷ [])
+    (fed 0x00 nothing ∷ fed 0xF4 nothing ∷ cleared ∷ fed 0xF3 nothing ∷ []) (numbers 0 0 2 0 0)
+    -- request 3: "state 04 to background calibration running, 05 to done, 06 to failed", "bytes 07 and above
     -- keep the old rule"
     ∷ row fresh (slice (bIn 0x04) ∷ slice (bIn 0x05) ∷ slice (bIn 0x06) ∷ slice (bIn 0x07) ∷ [])
     (sliced (bIn 0x04) 23 (reportIn CalibrationRunning, []) ∷ sliced (bIn 0x05) 23 (reportIn CalibrationDone, [])

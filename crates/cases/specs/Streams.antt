@@ -60,7 +60,7 @@ streams =
     -- not the document's: each kind of piece in one stream; the byte that breaks a start begins the whole frame
     ∷ row (0x00 ∷ 0xF4 ∷ b ++ (0xFD ∷ []))
     (stray 0x00 ∷ broken (0xF4 ∷ []) ∷ whole b ∷ unfinished (0xFD ∷ []) ∷ []) (numbers 1 1 2 0 1)
-    -- item 5 of document 02: after a header and the length 54, B is found if it begins 54 bytes later
+    -- request 5: after a header and the length 54, B is found if it begins 54 bytes later
     ∷ row (begun ++ (zeros 44 ++ b)) (broken (begun ++ zeros 44) ∷ whole b ∷ []) (numbers 1 1 60 0 0)
     -- and lost if it begins 53 bytes later: its first byte is taken for the last data byte
     ∷ row (begun ++ (zeros 43 ++ b)) (broken (begun ++ (zeros 43 ++ (0xF4 ∷ []))) ∷ map stray (drop 1 b))

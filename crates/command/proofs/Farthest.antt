@@ -1,4 +1,5 @@
--- Which farthest gates the module takes: 2 to 8, both of them; and that the encoder gives 2 for exactly the others.
+-- Which farthest gates the module takes: 2 to 8, both of them; and which gates and sensitivities; and that the encoder
+-- gives 2 for exactly the others.
 use mathlib.Core.Path.{_≡_, refl}
 use mathlib.Core.Logic.{_↔_, _⊎_, inl, inr, ⊎-elim, ⊎-map}
 use mathlib.Core.Bool.{Bool, true, false, _&&_, and-eq-true-iff, true≢false}
@@ -9,11 +10,13 @@ use lib.Dec.{leb}
 use borrow.Author.Tests.{lt-leb, leb-true, leb-false}
 use Rattle.writer.specs.Written.{WriteCauses}
 use Rattle.writer.specs.declared.WriteResult.{WriteResult}
-use Rattle.command.specs.Setting.{farthest}
+use Rattle.command.specs.Setting.{farthest, gateKnown, sensitivity}
 use Rattle.command.specs.Command.{encodable}
-use Rattle.command.specs.Claims.{Outside, FarthestGates}
+use Rattle.command.specs.Claims.{Outside, FarthestGates, Missing, TooHigh, Sensitivities}
 use Rattle.command.specs.declared.Command.{Command}
-use Rattle.command.specs.declared.Command.the-variants.{SetMaxGates}
+use Rattle.command.specs.declared.Command.the-variants.{SetMaxGates, SetSensitivity}
+use Rattle.command.specs.declared.setting.Gate.{Gate}
+use Rattle.command.specs.declared.setting.Gate.the-variants.{Index, All}
 use Rattle.command.proofs.Frames.{gates-encodable}
 
 -- Two tests fail together exactly where one of them does.
@@ -48,3 +51,30 @@ farthest-gates c f k w m s n h e =
     let g = unsupported-gates m s n h in
     let b = rw e at (w .refused) in
     (λ q. g .0 (b .0 q), λ o. b .1 (g .1 o))
+
+-- The same of gates and sensitivities.
+missing : (g : Gate) → gateKnown g ≡ false ↔ Missing g
+missing (Index i) = (leb-false i 8, lt-leb i 8)
+missing All = (λ e. absurd (true≢false e), λ h. absurd h)
+
+module _ (g : Gate) (m s : ℕ) where
+  abbrev high : Type 0
+  high = TooHigh m ⊎ TooHigh s
+
+  refused-values : encodable (SetSensitivity g m s) ≡ false → Missing g ⊎ high
+  refused-values e =
+      ⊎-map (missing g .0)
+      (λ b. ⊎-map (leb-false m 100) (leb-false s 100) (and-eq-false-iff (sensitivity m) (sensitivity s) .0 b))
+      (and-eq-false-iff (gateKnown g) (sensitivity m && sensitivity s) .0 e)
+
+  values-refused : Missing g ⊎ high → encodable (SetSensitivity g m s) ≡ false
+  values-refused h =
+      and-eq-false-iff (gateKnown g) (sensitivity m && sensitivity s) .1
+      (⊎-map (missing g .1)
+      (λ b. and-eq-false-iff (sensitivity m) (sensitivity s) .1 (⊎-map (lt-leb m 100) (lt-leb s 100) b)) h)
+
+pub sensitivities : (c : Command) (f : List ℕ) (k : ℕ) {r : WriteResult} → WriteCauses 2 (encodable c ≡ false) f k r
+    → Sensitivities c r
+sensitivities c f k w g m s e =
+    let b = rw e at (w .refused) in
+    (λ q. refused-values g m s (b .0 q), λ o. b .1 (values-refused g m s o))

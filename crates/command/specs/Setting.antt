@@ -21,7 +21,7 @@ abbrev pub gateValue : Gate → ℕ
 gateValue (Index i) = i
 gateValue All = 0xFFFF
 
--- "The paper gives `SetMaxGates` as 2 to 8"; document 02, item 7: "Give 2 for a farthest gate of 0 or 1, in the place
+-- "The paper gives `SetMaxGates` as 2 to 8"; request 7: "Give 2 for a farthest gate of 0 or 1, in the place
 -- where gates above 8 get it"
 abbrev pub farthest : ℕ → Bool
 farthest i = leb 2 i && leb i 8

@@ -19,7 +19,7 @@ ghost use lib.ListN.{length};
 ghost use Rattle.writer.specs.Written.{writeResult, bufferAfter, WriteCauses};
 ghost use Rattle.cursor.specs.CommandFrame.{sizeWith};
 ghost use Rattle.command.specs.Command.{wordOf, valueOf, commandFrame, encodable, unsupported};
-ghost use Rattle.command.specs.Claims.{FarthestGates};
+ghost use Rattle.command.specs.Claims.{FarthestGates, Sensitivities};
 
 // A command to the module. Every one but `EnableConfig` is sent between `EnableConfig` and `EndConfig`.
 pub enum Command {
@@ -154,6 +154,7 @@ impl Command {
         ensures causes { λ r. ⌜ WriteCauses 2 (encodable self ≡ false) (commandFrame self)
             (length (now (out .entry))) r ⌝ }
         ensures farthest { λ r. ⌜ FarthestGates self r ⌝ }
+        ensures sensitivities { λ r. ⌜ Sensitivities self r ⌝ }
     {
         if !self.encodable() {
             return WriteResult::Err(Error::Unsupported);

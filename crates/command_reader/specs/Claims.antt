@@ -1,5 +1,5 @@
--- Document 02, item 7: "the command reader gives 5 for such bytes".
---   NearGates b r   the item, of the answer r to the bytes b: 5, if they are those of a `SetMaxGates` whose moving or
+-- Request 7: "the command reader gives 5 for such bytes".
+--   NearGates b r   the request, of the answer r to the bytes b: 5, if they are those of a `SetMaxGates` whose moving or
 --                   stationary farthest gate is 0 or 1
 use mathlib.Core.Path.{_≡_}
 use mathlib.Core.Logic.{_⊎_}

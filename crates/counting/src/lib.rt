@@ -1,6 +1,6 @@
 // Counting what a stream holds: bytes of any number fed to a parser, and its numbers printed on one line.
-use feed::feed_slice_at;
 use ld2410::Parser;
+use ld2410::feed_slice_at;
 ghost use mathlib.Core.Path.{_≡_};
 ghost use Rattle.wire.specs.Bytes.{Bytes};
 ghost use Rattle.stream.specs.Length.{linkLimit};

@@ -14,6 +14,13 @@ module _ {A : Type 0} where
       stretches-joined ds (p ++ take k bs) ∙ append-assoc p (take k bs) (takenBy ds)
   stretches-joined (cleared ∷ ds) p = ap (λ (l : List ℕ). p ++ l) (stretches-joined ds [])
 
+  -- The stretch so far, where calls follow others.
+  pub so-far-append : (ds : List (Did A)) (p : List ℕ) (es : List (Did A)) → soFar p (ds ++ es) ≡ soFar (soFar p ds) es
+  so-far-append [] p es = refl
+  so-far-append (fed b a ∷ ds) p es = so-far-append ds (p ++ (b ∷ [])) es
+  so-far-append (sliced bs k a ∷ ds) p es = so-far-append ds (p ++ take k bs) es
+  so-far-append (cleared ∷ ds) p es = so-far-append ds [] es
+
   -- The first stretch.
   first-is : (ds : List (Did A)) (p : List ℕ) → List·Memᴰ (p ++ upToReset ds) (stretches p ds)
   first-is [] p = List·Memᴰ·head (append-nil p)

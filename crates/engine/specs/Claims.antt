@@ -5,7 +5,8 @@ use mathlib.Core.Path.{_≡_}
 use mathlib.Core.List.{List, _∷_, _++_, List·Memᴰ}
 use Prim.Native.Nat.{ℕ}
 use Rattle.engine.specs.Runs as Runs
-use Rattle.engine.specs.Calls.{Did, Took, taken, takenBy, stretches, soFar, upToReset}
+use Rattle.wire.specs.Bytes.{Byte, Bytes}
+use Rattle.engine.specs.Calls.{feed, slice, reset, ByteCall, Goes, Did, Took, taken, takenBy, stretches, soFar, upToReset}
 use Rattle.engine.specs.Fulfilled.{joinOver}
 
 -- On any machine, calls that follow others do what they do from the state that those left.
@@ -13,6 +14,11 @@ unfoldable pub HistoryAppend : Type 0
 HistoryAppend = (M : Runs.Machine (List ℕ) (List ℕ) (List ℕ)) (s : List ℕ) (cs ds : List (List ℕ))
     → (Runs.history M s (cs ++ ds) ≡ Runs.history M s cs ++ Runs.history M (Runs.final M s cs) ds)
     × (Runs.final M s (cs ++ ds) ≡ Runs.final M (Runs.final M s cs) ds)
+
+-- Nothing else is asked of a call than that it passes bytes, and none but a reset stops a stretch.
+unfoldable pub AnyCall : Type 0
+AnyCall = ((b : ℕ) → Byte b → ByteCall (feed b) × Goes (feed b))
+    × ((bs : List ℕ) → Bytes bs → ByteCall (slice bs) × Goes (slice bs)) × ByteCall reset × (Goes reset → ⊥)
 
 -- The stretches, joined, are what was pending and all that was taken: no byte is lost between them.
 unfoldable pub StretchesJoined : Type 0

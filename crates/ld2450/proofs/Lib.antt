@@ -17,3 +17,5 @@ pub mod TargetRound
 pub mod FrameRound
 -- The tests of the writer, and its puts.
 pub mod FrameWritten
+-- The writer's test is request 6's two causes.
+pub mod Unsayable

@@ -1,4 +1,4 @@
--- A target's eight bytes, and which targets may be written: document 02, item 6.
+-- A target's eight bytes, and which targets may be written: request 6.
 --   isZero z           z is 0
 --   presentBytes t     the bytes of a target that is there
 --   targetBytes t      the eight bytes of the target t
@@ -6,13 +6,16 @@
 --   targetsFrame ts    the frame around them
 --   writable t         the target t may be written; allWritable ts, each of the targets may
 --   unrepresentable ts refusal 6, unless they may
+--   Unsayable t        no bytes say the target t, by the request's two causes; SomeUnsayable ts, one of the targets is such
+use mathlib.Core.Path.{_≡_}
+use mathlib.Core.Logic.{_≢_}
 use mathlib.Core.List.{List, [], _∷_, _++_}
 use mathlib.Core.Bool.{Bool, true, false, cond, _&&_}
 use mathlib.Core.Option.{Option}
 use Prim.Native.Nat.{ℕ}
 use lib.Dec.{eqb}
 use lib.ListN.{replicate}
-use lib.IntN.{ℤ, pos, negsuc}
+use lib.IntN.{ℤ, pos, negsuc, negℤ}
 use Rattle.refusal.specs.declared.Error.{Error}
 use Rattle.refusal.specs.declared.Error.the-variants.{Unrepresentable}
 use Rattle.wire.specs.Number.{leBytes}
@@ -53,3 +56,18 @@ allWritable (t ∷ ts) = writable t && allWritable ts
 
 abbrev pub unrepresentable : List Target → Option Error
 unrepresentable ts = unless (allWritable ts) Unrepresentable
+
+pub data Unsayable : Target → Type 0 where
+  -- "-32,768": in a signed field of a present target
+  lowest-x : (t : Target) → t .present ≡ true → t .x ≡ negℤ (pos 32768) → Unsayable t
+  lowest-y : (t : Target) → t .present ≡ true → t .y ≡ negℤ (pos 32768) → Unsayable t
+  lowest-speed : (t : Target) → t .present ≡ true → t .speed ≡ negℤ (pos 32768) → Unsayable t
+  -- "and a field not 0 in an absent target"
+  left-x : (t : Target) → t .present ≡ false → t .x ≢ pos 0 → Unsayable t
+  left-y : (t : Target) → t .present ≡ false → t .y ≢ pos 0 → Unsayable t
+  left-speed : (t : Target) → t .present ≡ false → t .speed ≢ pos 0 → Unsayable t
+  left-resolution : (t : Target) → t .present ≡ false → t .resolution ≢ 0 → Unsayable t
+
+pub data SomeUnsayable : List Target → Type 0 where
+  here : (t : Target) (ts : List Target) → Unsayable t → SomeUnsayable (t ∷ ts)
+  later : (t : Target) (ts : List Target) → SomeUnsayable ts → SomeUnsayable (t ∷ ts)

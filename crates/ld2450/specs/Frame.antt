@@ -1,4 +1,4 @@
--- The LD2450's frame, and what it is read as: document 02, item 6.
+-- The LD2450's frame, and what it is read as: request 6.
 --   header, tail      the bytes that begin and end a frame
 --   framed d          the frame with the target bytes d
 --   IsFrame s         s is a frame; isFrame s, the same as a test

@@ -33,6 +33,6 @@ targetFrames = record {
   Reads = ReadAs;
   -- every frame has the one length
   Within = λ f. Unit {0};
-  -- the item promises no bytes again; these come back all the same
+  -- the request promises no bytes again; these come back all the same
   Kept = λ f. EachAsWritten (heldIn f);
 }

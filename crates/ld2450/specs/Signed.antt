@@ -1,4 +1,4 @@
--- Signed numbers of two bytes: document 02, item 6.
+-- Signed numbers of two bytes: request 6.
 --   signedOf n   the number that the two-byte number n says
 --   sayable z    some two-byte number says z: of sixteen bits each but -32,768
 --   rawOf z      the two-byte number that is written for z in a present target

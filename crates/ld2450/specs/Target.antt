@@ -1,4 +1,4 @@
--- A target, read from its eight bytes: document 02, item 6.
+-- A target, read from its eight bytes: request 6.
 --   absent       no target: every field 0
 --   fieldAt b i  the two-byte number at place i of the bytes b
 --   targetOf b   the target that the eight bytes b are

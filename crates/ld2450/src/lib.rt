@@ -21,7 +21,7 @@ ghost use Rattle.writer.specs.RoundTrip.{RoundTrip};
 ghost use Rattle.ld2450.specs.Target.{threeOf};
 ghost use Rattle.ld2450.specs.Frame.{isFrame, noTargets, parsedTargets, returnedTargets};
 ghost use Rattle.ld2450.specs.Frame.{ReadCauses, OneAnswer};
-ghost use Rattle.ld2450.specs.Bytes.{allWritable, unrepresentable, targetsFrame};
+ghost use Rattle.ld2450.specs.Bytes.{allWritable, unrepresentable, targetsFrame, SomeUnsayable};
 ghost use Rattle.ld2450.specs.RoundTrip.{targetFrames};
 ghost use Rattle.ld2450.specs.Claims.{Examples, WrittenExample};
 
@@ -103,7 +103,7 @@ pub fn write_targets(out: &mut [u8], targets: [Target; TARGETS]) -> WriteResult
         (length (now (out .entry))) ⌝ }
     ensures left { λ _. ⌜ now (out .exit) ≡ bufferAfter (unrepresentable targets) (targetsFrame targets)
         (now (out .entry)) ⌝ }
-    ensures causes { λ r. ⌜ WriteCauses 6 (allWritable targets ≡ false) (targetsFrame targets)
+    ensures causes { λ r. ⌜ WriteCauses 6 (SomeUnsayable targets) (targetsFrame targets)
         (length (now (out .entry))) r ⌝ }
     ensures round { λ _. ⌜ RoundTrip targetFrames targets ⌝ }
 {

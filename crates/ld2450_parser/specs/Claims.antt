@@ -1,4 +1,4 @@
--- Demand 3 of document 01's customer, for the parser of this crate: document 02, item 6.
+-- Demand 3 of document 01's customer, for the parser of this crate: request 6.
 --   did, left         what calls did, the first on the parser x, each other on the parser that the one before left; and
 --                     the parser that they left
 --   Demand3 p x       every list of calls that pass bytes fulfils the demand, from the parser x, in which p is pending

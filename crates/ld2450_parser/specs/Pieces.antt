@@ -37,14 +37,14 @@ BrokenFrames = (d : List ℕ) (n c : ℕ) (t : List ℕ) (ps : List Piece) → l
     → Division Open Whole (take n (framed d) ++ (c ∷ t)) (broken (take n (framed d)) ∷ ps)
 
 abbrev pub oneOfEach : List ℕ
-oneOfEach = 0x00 ∷ 0xAA ∷ seen ++ (0xAA ∷ 0xFF ∷ [])
+oneOfEach = 0x00 ∷ 0xAA ∷ take 29 seen ++ (seen ++ (0xAA ∷ 0xFF ∷ []))
 
 abbrev pub twoSlices : List Call
-twoSlices = slice oneOfEach ∷ slice (drop 32 oneOfEach) ∷ []
+twoSlices = slice oneOfEach ∷ slice (drop 61 oneOfEach) ∷ []
 
 pub record Shown (x : Parser) : Type 0 where
   pub divided : Division Open Whole oneOfEach
-      (stray 0x00 ∷ broken (0xAA ∷ []) ∷ whole seen ∷ unfinished (0xAA ∷ 0xFF ∷ []) ∷ [])
-  pub answered : did x twoSlices ≡ sliced oneOfEach 32 (delivered seen) ∷ sliced (drop 32 oneOfEach) 2 nothing ∷ []
-  pub counted : left x twoSlices .stats ≡ record { frames = 1; resyncs = 1; dropped = 2 }
+      (stray 0x00 ∷ broken (0xAA ∷ []) ∷ broken (take 29 seen) ∷ whole seen ∷ unfinished (0xAA ∷ 0xFF ∷ []) ∷ [])
+  pub answered : did x twoSlices ≡ sliced oneOfEach 61 (delivered seen) ∷ sliced (drop 61 oneOfEach) 2 nothing ∷ []
+  pub counted : left x twoSlices .stats ≡ record { frames = 1; resyncs = 2; dropped = 31 }
   pub cut-off : unfinishedOf (left x twoSlices) ≡ 2

@@ -1,4 +1,4 @@
--- The LD2450's stream, as demand 3 (crate `engine`) speaks of it: document 02, item 6, "a stream parser that meets
+-- The LD2450's stream, as demand 3 (crate `engine`) speaks of it: request 6, "a stream parser that meets
 -- demand 3 over a division of the same kind, with three counters".
 --   Open s        a frame begins with the string s
 --   Whole s       s is a whole frame (crate `ld2450`, IsFrame)

@@ -10,7 +10,7 @@ use Rattle.stream.specs.Deliver.{dropped, frames}
 use Rattle.stream.proofs.Link.{link}
 use Rattle.stream.proofs.Decoding.{decoding, counting}
 use Rattle.stream.specs.Recovery.{Recovers}
-use Rattle.stream.proofs.Recovery.{recovers}
+use Rattle.stream.proofs.Recovery.{recovers, found-in-stretch}
 use Rattle.stream.proofs.Regained.{regains}
 use Rattle.scan.specs.Scan.{hunting, wellFormed, orReset}
 use Rattle.scan.specs.Stands.{OutOfRange, pendingOf}
@@ -56,6 +56,7 @@ from-any x v =
       empty = c .empty;
       resumed = λ calls more h g y d e st. c .resumes calls more h g y d e (λ k. ap (counterIn k) (sym st));
       recovers = again;
+      found = found-in-stretch linkLimit (omega arith) (engine linkLimit) p x;
       regains = regains linkLimit (omega arith) (engine linkLimit) p x again;
     }
 

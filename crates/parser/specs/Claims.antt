@@ -32,7 +32,7 @@ use Rattle.engine.specs.Fulfilled.{deliveries, Fulfilled, Same}
 use Rattle.stream.specs.Open.{Open, Whole}
 use Rattle.stream.specs.Deliver.{Answer, nothing, Counter}
 use Rattle.stream.specs.Protocol.{ld2410}
-use Rattle.stream.specs.Recovery.{Clean, Recovered, Recovers, Regains, Lost}
+use Rattle.stream.specs.Recovery.{Clean, Recovered, Recovers, FoundInStretch, Regains, Lost}
 use Rattle.scan.specs.Scan.{at}
 use Rattle.scan.specs.Stands.{OutOfRange, pendingOf}
 use Rattle.scan.specs.declared.State.the-variants.{Data}
@@ -77,8 +77,10 @@ pub record FromAny (x : Parser) : Type 0 where
   pub resumed : (calls more : List Call) → Every ByteCall calls → Every ByteCall more
       → (y : Parser) → Demand3 (pendingBy linkLimit y) y → pendingBy linkLimit y ≡ pendingBy linkLimit (left x calls)
       → y .stats ≡ left x calls .stats → did x (calls ++ more) ≡ did x calls ++ did y more
-  -- Item 5 of document 02: "Suppose the parser is in any state"
+  -- Request 5: "Suppose the parser is in any state"
   pub recovers : Recovers linkLimit (engine linkLimit) (pendingBy linkLimit x) x
+  -- "found whole": in the division of the whole stretch too, which may have begun long before that moment
+  pub found : FoundInStretch linkLimit (engine linkLimit) (pendingBy linkLimit x) x
   -- so all that are sent 54 or more bytes later are delivered, those that decode
   pub regains : Regains linkLimit (engine linkLimit) x
 

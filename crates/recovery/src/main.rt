@@ -3,7 +3,7 @@
 // put in, and the rest. The boundary is the first start of a frame in the rest, or its end: from there on only whole
 // frames come. Such a frame is found if its last byte delivers a frame and its other bytes, and no more, were in
 // progress before; else it is lost, and its distance is that of its start from the boundary. The output has a line for
-// each way, and the bound of item 5 of document 02, which is for frames with neither F4 nor FD among their data. The
+// each way, and the bound of request 5, which is for frames with neither F4 nor FD among their data. The
 // file stdout beside src/ has what the original Rust loses (compare/src/recovery.rs).
 use counting::feed_all;
 use ld2410::FrameKind;

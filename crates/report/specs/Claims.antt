@@ -1,6 +1,6 @@
--- Document 02, item 3: "Decode these three as states of their own, without any target .. Report reading .. follow".
+-- Request 3: "Decode these three as states of their own, without any target .. Report reading .. follow".
 --   Untargeted r      the report r tells no target
---   Calibrated s r    the item, of the report r that the data s are read as
+--   Calibrated s r    the request, of the report r that the data s are read as
 use mathlib.Core.Path.{_≡_}
 use mathlib.Core.Bool.{false}
 use mathlib.Core.List.{List}

@@ -1,4 +1,4 @@
--- Reports, written and read: refused is "a value that the reader can't give", and, document 02, item 3: "writing again
+-- Reports, written and read: refused is "a value that the reader can't give", and, request 3: "writing again
 -- gives equal bytes for states 0 to 6 with at most eight reserved bytes".
 --   holding r      the frame that holds the report r
 --   ReadAs f r     `Frame::parse` gives the report r for the string f

@@ -1,13 +1,13 @@
--- What is claimed of a session: its calls are Item 2's machine.
+-- What is claimed of a session: its calls are request 2's machine.
 --   Called s e t r   a call on the session s, which is the event e, left t and answered r: as the machine moves, and in
 --                    no other way
 --   sessionCall      the calls of a session, as a machine: where each leaves it, and what it answers
---   RunsAs s es      the events es on the session s are a conversation of Item 2's machine, and it has no other
+--   RunsAs s es      the events es on the session s are a conversation of request 2's machine, and it has no other
 --   AnyRun s         so are any events, in any number and order
 --   AnySession       from any session, made by hand too
 --   SendCauses s c n r   each number is returned exactly in its cause, where the command c is sent into n bytes
 --   OutsideRefused s m t r   in the session s the farthest gates m and t get 2 exactly if it is open and one is outside
---   FarthestSent s c r   document 02, item 7: so does the answer r to the command c, if it has farthest gates
+--   FarthestSent s c r   request 7: so does the answer r to the command c, if it has farthest gates
 --   Success c f      the frame f acknowledges the command c with success
 --   OpensAndCloses s what `EnableConfig` opens from s, `EndConfig` closes: the claim is about something
 use mathlib.Core.Path.{_≡_}

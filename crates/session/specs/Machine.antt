@@ -1,4 +1,4 @@
--- Item 2 of document 02 as a machine: a rule for each of its sentences, in its words, and the machine's runs.
+-- Request 2 as a machine: a rule for each of its sentences, in its words, and the machine's runs.
 --   Event              a command sent into a buffer, a frame of the module, giving up, or asking which word is awaited
 --   Response           to a command: the number, the bytes needed and the bytes written, and the buffer left; to a
 --                      frame: that it passed, or that it ended the wait, with `ok` on or off; to the question: the

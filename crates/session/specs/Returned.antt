@@ -1,4 +1,4 @@
--- What the answer to a command returns, by document 01's column "Returned" and item 2's new numbers.
+-- What the answer to a command returns, by document 01's column "Returned" and request 2's new numbers.
 --   sessionNumber e   the number of the refusal e
 --   sessionNeeded e   the bytes needed that stand beside 4; 0 beside every other number
 --   returnedSend r    the number and the bytes written that the answer r returns

@@ -1,4 +1,4 @@
--- The calls of a session as functions, which the contracts equal. They need not be believed: that they move as Item 2's
+-- The calls of a session as functions, which the contracts equal. They need not be believed: that they move as request 2's
 -- machine does, and that it leaves no choice, is the claim (Claims.antt).
 --   awaitedWord s     the word that is awaited, if one is
 --   isBusy s          a wait is on

@@ -86,7 +86,7 @@ impl SessionError {
 }
 
 impl Session {
-    // A closed session. Any run of calls and frames from it answers as the machine of Item 2 does (specs/Machine.antt).
+    // A closed session. Any run of calls and frames from it answers as the machine of request 2 does (specs/Machine.antt).
     pub fn new() -> Self
         ensures made { λ r. ⌜ r ≡ Session.Closed ⌝ }
         ensures runs { λ r. ⌜ AnyRun r ⌝ }

@@ -1,4 +1,4 @@
-// Sending a command: the session's tests, in Item 2's order, then the encoder.
+// Sending a command: the session's tests, in request 2's order, then the encoder.
 use super::SendResult;
 use super::Sent;
 use super::Session;

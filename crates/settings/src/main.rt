@@ -1,6 +1,6 @@
 // A conversation with a module, from `EnableConfig` to `EndConfig`, as a station has it: a session, and beside it the
 // parser of what the module sends, which comes from standard input. The output has each command as it is sent, and
-// under it what the frames did that came. The file stdout beside src/ has what Item 2 of document 02 and the maker's
+// under it what the frames did that came. The file stdout beside src/ has what request 2 and the maker's
 // documents say, written by hand.
 use ld2410::Command;
 use ld2410::Gate;

@@ -14,14 +14,17 @@ use Rattle.framing.proofs.Scanner.{Step, step, closed, rest}
 use Rattle.framing.proofs.View.{nothing-waits, rest-waits, step-on}
 use Rattle.framing.proofs.Scanned.{from, from-append, reads, scanner-sound, scanner-complete}
 use Rattle.framing.proofs.Rest.{rest-append}
-use Rattle.engine.specs.Calls.{Call, ByteCall, Goes, takenBy}
-use Rattle.engine.specs.Engine.{Engine, history}
+use Rattle.engine.specs.Calls.{Call, ByteCall, Goes, takenBy, soFar}
+use Rattle.engine.specs.Engine.{Engine, call, history, final}
 use Rattle.engine.specs.Fulfilled.{Fulfilled}
 use Rattle.engine.specs.Delivered.{DeliveredBy}
 use Rattle.engine.proofs.Delivered.{delivered-by}
+use Rattle.engine.proofs.Runs.{history-append}
+use Rattle.engine.proofs.Stretches.{so-far-append}
+use Rattle.engine.proofs.Accounts.{all-taken}
 use Rattle.stream.specs.Deliver.{Answer, Counter}
 use Rattle.stream.specs.Protocol.{ld2410}
-use Rattle.stream.specs.Recovery.{Clean, joined, Recovers}
+use Rattle.stream.specs.Recovery.{Clean, joined, Recovers, FoundInStretch}
 use Rattle.stream.proofs.Link.{link}
 use Rattle.stream.proofs.Decoding.{decoding, counting}
 use Rattle.stream.proofs.Idle.{Ready, first, first-waits}
@@ -112,3 +115,15 @@ recovers limit small E p s fulfils calls bytes goes early c late f x v e ps d =
       delivered = delivered limit f x small p early c (omega arith) v ps d′ E s fulfils calls bytes goes e;
       anew = scanner-sound (link limit) [] v (nothing-waits (link limit));
     }
+
+-- Whatever the stretch holds by then, it is the string before the frames.
+pub found-in-stretch : (limit : ℕ) → limit ≤ 512 → {S : Type 0} (E : Engine S Answer Counter) (p : List ℕ) (s : S)
+    → FoundInStretch limit E p s
+found-in-stretch limit small E p s calls more goes early c late f x v e ps d =
+    let u = soFar p (history E s calls) in
+    let stretch : soFar p (history E s (calls ++ more)) ≡ u ++ (joined early ++ (f ++ v)) =
+    ap (soFar p) (history-append (call E) s calls more)
+    ∙ so-far-append (history E s calls) p (history E (final E s calls) more)
+    ∙ all-taken E more u (final E s calls) goes ∙ ap (λ (l : List ℕ). u ++ l) e in
+    found limit f x small u early c (omega arith) v ps
+    (subst (λ (l : List ℕ). Divides (link limit) l ps) stretch d)

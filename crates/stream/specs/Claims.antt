@@ -12,7 +12,8 @@ use Rattle.wire.specs.Family.{header, tail, framed}
 use Rattle.wire.specs.declared.Kind.{Kind}
 use Rattle.wire.specs.declared.Kind.the-variants.{Report}
 use Rattle.wire.specs.Bytes.{Every, Bytes}
-use Rattle.frame.specs.Frame.{bodyChecks, decoded}
+use Rattle.refusal.specs.declared.Outcome.the-variants.{Ok}
+use Rattle.frame.specs.Frame.{bodyChecks, decoded, parsedFrame}
 use Rattle.framing.specs.Piece.{Piece, broken, spelled}
 use Rattle.framing.specs.Division.{Division, Divided, EndsAt, finished, cut}
 use Rattle.framing.specs.Tally.{resynced, lost, inFrames, waiting, sum}
@@ -21,9 +22,9 @@ use Rattle.engine.specs.Engine.{Engine}
 use Rattle.engine.specs.Fulfilled.{Fulfilled}
 use Rattle.stream.specs.Length.{InRange}
 use Rattle.stream.specs.Open.{Open, Whole}
-use Rattle.stream.specs.Deliver.{Answer, decodes, payloadOf, delivered, Counter, adds}
+use Rattle.stream.specs.Deliver.{Answer, decodes, countedIn, payloadOf, delivered, Counter, adds}
 use Rattle.stream.specs.Protocol.{ld2410}
-use Rattle.stream.specs.Recovery.{Recovers, Regains, Lost}
+use Rattle.stream.specs.Recovery.{Recovers, FoundInStretch, Regains, Lost}
 
 -- A whole frame of bytes is what framing its data gives.
 unfoldable pub WholeFramed : Type 0
@@ -104,6 +105,12 @@ unfoldable pub DecodesWhole : Type 0
 DecodesWhole = (limit : ℕ) (s : List ℕ) (w : Whole limit s) → Bytes s
     → (decodes s ≡ true) ↔ Passes (bodyChecks (w .kind)) (w .held)
 
+-- It decodes exactly if `Frame::parse` accepts it, and is delivered "as `Frame::parse` gives it, but with a payload's
+-- start counted in the parser's buffer", where the data begin.
+unfoldable pub DeliversParsed : Type 0
+DeliversParsed = (f : List ℕ) → ((decodes f ≡ true) ↔ (parsedFrame f .outcome ≡ Ok))
+    × (delivered f .0 ≡ countedIn (parsedFrame f .frame .kind) 4 (parsedFrame f .frame))
+
 -- It delivers what its data are read as, a payload starting at byte 4 of the buffer, which the data begin, and with the
 -- bytes that stand there.
 unfoldable pub DeliversWhole : Type 0
@@ -111,11 +118,15 @@ DeliversWhole = (limit : ℕ) (s : List ℕ) (w : Whole limit s) (r : List ℕ) 
     → let x = decoded 4 (w .kind) (w .held) .frame in
     _≡_ {A = Answer} (delivered s) (x, payloadOf x (w .held ++ r))
 
--- Item 5 of document 02, for every largest length up to 512: a parser that fulfils demand 3 recovers, whatever is
+-- Request 5, for every largest length up to 512: a parser that fulfils demand 3 recovers, whatever is
 -- pending. It speaks of states that are lists of numbers, since a contract can hold no statement about all types.
 unfoldable pub AnyRecovers : Type 0
 AnyRecovers = (limit : ℕ) → limit ≤ 512 → (E : Engine (List ℕ) Answer Counter) (p s : List ℕ)
     → ((calls : List Call) → Every ByteCall calls → Fulfilled (ld2410 limit) E p s calls) → Recovers limit E p s
+
+-- And each such frame is found in the division of its whole stretch.
+unfoldable pub AnyFound : Type 0
+AnyFound = (limit : ℕ) → limit ≤ 512 → (E : Engine (List ℕ) Answer Counter) (p s : List ℕ) → FoundInStretch limit E p s
 
 -- So it delivers all that are sent so late, those that decode.
 unfoldable pub AnyRegains : Type 0

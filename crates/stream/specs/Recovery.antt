@@ -1,10 +1,11 @@
--- How soon the stream is read right again: item 5 of document 02, over the largest length `limit`, which it sets to 54.
+-- How soon the stream is read right again: request 5, over the largest length `limit`, which it sets to 54.
 --   Plain b               b begins no header
 --   Clean limit f         f is a whole frame with plain data bytes alone
 --   joined fs             the frames fs, "back to back"
 --   Recovered             a frame after others is found, and delivered if it decodes
 --   Recovers limit E p s  so is, from the state s of the engine E, in which p is pending, each clean frame that begins
 --                         `limit` or more bytes later
+--   FoundInStretch limit E p s   so is each found in the division of its whole stretch, from fresh or the last reset on
 --   Sendable limit x      x, a family and data, may be sent as such a frame; frameBytes x, its frame
 --   backToBack xs         the frames of xs, one after another
 --   Regains limit E s     so all that are sent `limit` or more bytes later are delivered, those that decode
@@ -20,8 +21,8 @@ use Rattle.wire.specs.Family.{framed}
 use Rattle.wire.specs.declared.Kind.{Kind}
 use Rattle.framing.specs.Piece.{Piece, whole}
 use Rattle.framing.specs.Division.{Division, EndsAt}
-use Rattle.engine.specs.Calls.{Call, ByteCall, Goes, Did, takenBy}
-use Rattle.engine.specs.Engine.{Engine, history}
+use Rattle.engine.specs.Calls.{Call, ByteCall, Goes, Did, takenBy, soFar}
+use Rattle.engine.specs.Engine.{Engine, history, final}
 use Rattle.engine.specs.Fulfilled.{deliveries, answers}
 use Rattle.engine.specs.Delivered.{DeliveredBy}
 use Rattle.stream.specs.Length.{InRange}
@@ -59,6 +60,17 @@ Recovers limit E p s = (calls : List Call) → Every ByteCall calls → Every Go
     → (f : List ℕ) → Clean limit f → (v : List ℕ) → takenBy (history E s calls) ≡ joined early ++ (f ++ v)
     → (ps : List Piece) → Division (Open limit) (Whole limit) (p ++ takenBy (history E s calls)) ps
     → Recovered limit (history E s calls) p early f v ps
+
+-- "is found whole" in the stretch's own division: the calls `calls` come before that moment, with resets among them or
+-- without, and the stretch may hold anything by then; the calls `more` come after it. p is what was pending before all
+-- of them, [] in a fresh parser.
+abbrev pub FoundInStretch : {S : Type 0} → ℕ → Engine S Answer Counter → List ℕ → S → Type 0
+FoundInStretch limit E p s = (calls more : List Call) → Every Goes more
+    → (early : List (List ℕ)) → Every (Clean limit) early → limit ≤ length (joined early)
+    → (f : List ℕ) → Clean limit f → (v : List ℕ)
+    → takenBy (history E (final E s calls) more) ≡ joined early ++ (f ++ v)
+    → (ps : List Piece) → Division (Open limit) (Whole limit) (soFar p (history E s (calls ++ more))) ps
+    → EndsAt ps (length (soFar p (history E s calls) ++ (joined early ++ f))) f
 
 -- What follows for who sends, by families and data alone. "lengths 2 to 54, none with F4 or FD among its data bytes"
 abbrev pub Sendable : ℕ → Kind × List ℕ → Type 0

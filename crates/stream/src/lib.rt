@@ -8,8 +8,8 @@ ghost use Rattle.stream.specs.Claims.{WholeFramed, StrayBytes};
 ghost use Rattle.stream.specs.Claims.{DividesOnce, DivisionSpelled, DivisionLength, UnfinishedOpen};
 ghost use Rattle.stream.specs.Claims.{DivisionAppend, TotalAppend, EndsForGood, ResyncsBound, ResyncsReached};
 ghost use Rattle.stream.specs.Claims.{BadLength, BrokenTail};
-ghost use Rattle.stream.specs.Claims.{DecodesWhole, DeliversWhole};
-ghost use Rattle.stream.specs.Claims.{AnyRecovers, AnyRegains, NotSooner, NotSoonerAt244};
+ghost use Rattle.stream.specs.Claims.{DecodesWhole, DeliversWhole, DeliversParsed};
+ghost use Rattle.stream.specs.Claims.{AnyRecovers, AnyFound, AnyRegains, NotSooner, NotSoonerAt244};
 
 // A whole frame is what framing its data gives; a stray byte is neither of two.
 fn framing_claims()
@@ -41,11 +41,13 @@ fn trap_claims()
 fn delivery_claims()
     ensures decodes { λ _. ⌜ DecodesWhole ⌝ }
     ensures delivers { λ _. ⌜ DeliversWhole ⌝ }
+    ensures parsed { λ _. ⌜ DeliversParsed ⌝ }
 {}
 
 // How soon the stream is read right again, and that one byte less is not enough.
 fn recovery_claims()
     ensures recovers { λ _. ⌜ AnyRecovers ⌝ }
+    ensures found { λ _. ⌜ AnyFound ⌝ }
     ensures regains { λ _. ⌜ AnyRegains ⌝ }
     ensures not_sooner { λ _. ⌜ NotSooner ⌝ }
     ensures at_244 { λ _. ⌜ NotSoonerAt244 ⌝ }

@@ -70,8 +70,13 @@ no-target CalibrationDone h = (refl, refl)
 no-target CalibrationFailed h = (refl, refl)
 
 pub calibration : (b : ℕ) → Calibration b (stateOf b)
+unfolding stateOf
 calibration b = record {
+  running = λ e. rw e;
+  done = λ e. rw e;
+  failed = λ e. rw e;
   untargeted = λ h. no-target (stateOf b) (omega (arith, byte-kept b (h .1)));
+  unseen = λ h. let off = no-target (stateOf b) (omega (arith, byte-kept b (h .1))) in rw (off .0, off .1);
   old = state-bits b;
 }
 

@@ -1,4 +1,4 @@
--- The target state: "State uses its two lowest bits only"; and document 02, item 3: "state 04 to background calibration
+-- The target state: "State uses its two lowest bits only"; and request 3: "state 04 to background calibration
 -- running, 05 to done, 06 to failed", "bytes 07 and above keep the old rule".
 --   byBits n       the state of two bits: 0 none, 1 moving, 2 stationary, 3 both
 --   stateOf b      the state that the byte b stands for

@@ -1,5 +1,5 @@
 // Holds the readers and the writers against the documents: it reads the bytes that document 01 and the maker's
-// documents print, writes the commands that they print, reads and writes again the states of document 02's item 3, and
+// documents print, writes the commands that they print, reads and writes again the states of request 3, and
 // puts out a line for each. The file stdout beside src/ has what the documents say of them, written by hand.
 use ld2410::Baud;
 use ld2410::Command;
@@ -116,7 +116,7 @@ fn sent_module() {
     sent::sent(b"ReadMac", Command::ReadMac);
 }
 
-// A module under calibration, and state bytes to either side: document 02's item 3.
+// A module under calibration, and state bytes to either side: request 3.
 fn calibration() {
     states::basic(b"B, state 03", 3);
     states::basic(b"B, state 04", 4);

@@ -1,4 +1,4 @@
-// Rows about the state byte, document 02's item 3. A row is a line with the state that a report is read in, the targets
+// Rows about the state byte, request 3. A row is a line with the state that a report is read in, the targets
 // that it tells, and the frame that it is written as, in a buffer each of whose bytes was EE before.
 use crate::frames;
 use crate::published;

@@ -1,4 +1,4 @@
--- The parser's counters: "`bump` saturates"; document 02, item 1: "Make all four counters 64 bits wide; they stop at
+-- The parser's counters: "`bump` saturates"; request 1: "Make all four counters 64 bits wide; they stop at
 -- the largest 64-bit value."
 --   counterMax   that value, where a counter stops
 --   bumped c n   the counter c after n more

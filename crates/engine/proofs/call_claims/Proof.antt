@@ -1,9 +1,13 @@
 -- Calls and their stretches: cited from Runs and Stretches. Assumes nothing.
 use Rattle.engine.proofs.Runs.{history-append, final-append}
 use Rattle.engine.proofs.Stretches.{stretches-joined, stretch-of}
-use Rattle.engine.specs.Claims.{HistoryAppend, StretchesJoined, StretchOfCall}
+use Rattle.engine.specs.Claims.{AnyCall, HistoryAppend, StretchesJoined, StretchOfCall}
 use Rattle.engine.proofs.call_claims.Statement.{statement}
 use Rattle.engine.proofs.call_claims.Tie as tie
+
+any-call : AnyCall
+unfolding AnyCall
+any-call = (λ b h. (h, tt), λ bs h. (h, tt), tt, λ z. z)
 
 appended : HistoryAppend
 unfolding HistoryAppend
@@ -18,7 +22,7 @@ unfolding StretchOfCall
 stretch-one p before d after h = stretch-of before p d after h
 
 returns : tie.Need-returns
-returns c = (appended, (stretches-all, stretch-one))
+returns c = (any-call, (appended, (stretches-all, stretch-one)))
 
 pub call-claims-spec : {M : Type 1} → statement M
 call-claims-spec = tie.close (tie.spec returns)

@@ -14,10 +14,10 @@ use Rattle.ld2450.specs.Target.{absent}
 use Rattle.ld2450.specs.Bytes.{targetsFrame, writable, allWritable}
 use Rattle.ld2450.specs.RoundTrip.{targetFrames}
 use Rattle.ld2450.specs.declared.targets.Target.{Target}
-use Rattle.ld2450.proofs.Printed.{written-example}
 use Rattle.ld2450.proofs.Typed.{TypedTargets, targets-typed}
 use Rattle.ld2450.proofs.FrameRound.{agreed}
 use Rattle.ld2450.proofs.FrameWritten.{by-first, by-second, by-third, each-tested, frame-size, frame-put}
+use Rattle.ld2450.proofs.Unsayable.{sends}
 use Rattle.ld2450.proofs.write_targets.Statement.{statement}
 use Rattle.ld2450.proofs.write_targets.Tie as tie
 
@@ -50,7 +50,8 @@ tested c =
 returns : tie.Need-returns
 returns c =
     let refused = sym (tested (c .before)) ∙ not-true _ (c .if3 .taken) in
-    (written-example, round-refused (agree (c .before .before)) _ refused)
+    let test = c .before .before in
+    sends (given test) (typed test) _ _ (round-refused (agree test) _ refused)
 
 good : (c : tie.Else3) → allWritable (given (c .before .before)) ≡ true
 good c = sym (tested (c .before)) ∙ not-false _ (c .if3 .left)
@@ -58,11 +59,9 @@ good c = sym (tested (c .before)) ∙ not-false _ (c .if3 .left)
 returns-2 : tie.Need-returns-2
 returns-2 c =
     let test = c .before .before .before in
-    let size = frame-size (given test) (typed test .size) in (
-      written-example,
-      round-wrote (agree test) _ _ (good (c .before))
-          (wrote-short (targetsFrame (given test)) _ 30 (sym size) (c .if4 .taken)),
-    )
+    let size = frame-size (given test) (typed test .size) in
+    let short = wrote-short (targetsFrame (given test)) _ 30 (sym size) (c .if4 .taken) in
+    sends (given test) (typed test) _ _ (round-wrote (agree test) _ _ (good (c .before)) short)
 
 -- The way back: from a put to its target's bytes, and from these to the put before.
 abbrev first-bytes : tie.After-put2 → tie.After-target-bytes
@@ -122,11 +121,9 @@ returns-3 c =
     let left = frame-put (given test) size (start test .args .out .now) (has-room .if4 .left)
     (first-bytes one .target-bytes .ensures) (second-bytes two .target-bytes2 .ensures)
     (third-bytes three .target-bytes3 .ensures) (head .put .ensures .1) (one .put2 .ensures .1) (two .put3 .ensures .1)
-    (three .put4 .ensures .1) (tail .put5 .ensures .1) in (
-      written-example,
-      round-wrote (agree test) _ _ (good (has-room .before))
-          (wrote-whole (targetsFrame (given test)) _ 30 _ (sym long) (has-room .if4 .left) left),
-    )
+    (three .put4 .ensures .1) (tail .put5 .ensures .1) in
+    let whole = wrote-whole (targetsFrame (given test)) _ 30 _ (sym long) (has-room .if4 .left) left in
+    sends (given test) (typed test) _ _ (round-wrote (agree test) _ _ (good (has-room .before)) whole)
 
 pub write-targets-spec : {M : Type 1} → statement M
 write-targets-spec =

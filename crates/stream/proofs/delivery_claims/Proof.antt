@@ -10,9 +10,11 @@ use Rattle.refusal.specs.Check.{Checks, firstFailed, Passes}
 use Rattle.refusal.proofs.Checks.{passes-sound, passes-complete}
 use Rattle.refusal.specs.declared.MaybeCheck.{MaybeCheck}
 use Rattle.refusal.specs.declared.MaybeCheck.the-variants as Maybe
-use Rattle.frame.specs.Frame.{bodyChecks}
+use Rattle.refusal.specs.declared.Outcome.the-variants.{Ok}
+use Rattle.refusal.specs.Check.{outcomeOf}
+use Rattle.frame.specs.Frame.{bodyChecks, checkedFrame, parsedFrame}
 use Rattle.stream.specs.Deliver.{holds, decodes, delivered}
-use Rattle.stream.specs.Claims.{DecodesWhole, DeliversWhole}
+use Rattle.stream.specs.Claims.{DecodesWhole, DeliversWhole, DeliversParsed}
 use Rattle.stream.proofs.Begins.{whole-spelled, whole-short}
 use Rattle.stream.proofs.Delivered.{decodes-framed, delivered-framed}
 use Rattle.stream.proofs.delivery_claims.Statement.{statement}
@@ -42,8 +44,20 @@ unfolding DeliversWhole
 delivers-whole limit s w r bytes = ap delivered (whole-spelled limit s bytes w)
     ∙ delivered-framed (w .held) r (w .kind) (whole-short limit s bytes w)
 
+-- The reader refuses nothing exactly if no check fails.
+holds-accepted : (o : MaybeCheck) → (holds o ≡ true) ↔ (outcomeOf o ≡ Ok)
+holds-accepted (Maybe.Some c) = (
+  (λ e. let z : _≡_ {A = ℕ} 0 1 = cc in absurd (omega arith)),
+  (λ e. let z : _≡_ {A = ℕ} 0 1 = cc in absurd (omega arith)),
+)
+holds-accepted Maybe.None = ((λ e. refl), (λ e. refl))
+
+delivers-parsed : DeliversParsed
+unfolding DeliversParsed decodes delivered parsedFrame
+delivers-parsed f = (holds-accepted (checkedFrame f .failed), refl)
+
 returns : tie.Need-returns
-returns c = (decodes-whole, delivers-whole)
+returns c = (decodes-whole, (delivers-whole, delivers-parsed))
 
 pub delivery-claims-spec : {M : Type 1} → statement M
 delivery-claims-spec = tie.close (tie.spec returns)

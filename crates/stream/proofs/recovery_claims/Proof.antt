@@ -1,8 +1,8 @@
--- `stream::recovery_claims` pins what Recovery, Regained and Sooner prove. The second claim is proved from the first,
--- the fourth from the third. Assumes nothing.
+-- `stream::recovery_claims` pins what Recovery, Regained and Sooner prove. The third claim is proved from the first,
+-- the fifth from the fourth. Assumes nothing.
 use native.Mathlib.Omega.{arith}
-use Rattle.stream.specs.Claims.{AnyRecovers, AnyRegains, NotSooner, NotSoonerAt244}
-use Rattle.stream.proofs.Recovery.{recovers}
+use Rattle.stream.specs.Claims.{AnyRecovers, AnyFound, AnyRegains, NotSooner, NotSoonerAt244}
+use Rattle.stream.proofs.Recovery.{recovers, found-in-stretch}
 use Rattle.stream.proofs.Regained.{regains}
 use Rattle.stream.proofs.Sooner.{not-sooner}
 use Rattle.stream.proofs.recovery_claims.Statement.{statement}
@@ -11,6 +11,10 @@ use Rattle.stream.proofs.recovery_claims.Tie as tie
 any-recovers : AnyRecovers
 unfolding AnyRecovers
 any-recovers limit small E p s fulfils = recovers limit small E p s fulfils
+
+any-found : AnyFound
+unfolding AnyFound
+any-found limit small E p s = found-in-stretch limit small E p s
 
 any-regains : AnyRegains
 unfolding AnyRecovers AnyRegains
@@ -25,7 +29,7 @@ unfolding NotSooner NotSoonerAt244
 lost-at-244 = any-lost 244 (omega arith) (omega arith)
 
 returns : tie.Need-returns
-returns c = (any-recovers, (any-regains, (any-lost, lost-at-244)))
+returns c = (any-recovers, (any-found, (any-regains, (any-lost, lost-at-244))))
 
 pub recovery-claims-spec : {M : Type 1} → statement M
 recovery-claims-spec = tie.close (tie.spec returns)

@@ -1,4 +1,4 @@
--- `session::Session::send` meets its contract: the tests in Item 2's order, then the encoder. Assumes nothing.
+-- `session::Session::send` meets its contract: the tests in request 2's order, then the encoder. Assumes nothing.
 use mathlib.Core.Path.{sym, _∙_}
 use Rattle.session.proofs.SendTests.{sends-busy, sends-unopened, sends-encoded}
 use borrow.Author.Needs.{needs}
