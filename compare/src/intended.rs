@@ -51,7 +51,7 @@ pub const TABLE: [Intended; 9] = [
 ];
 
 const fn calibration(op: u8, lines: fn(&[u8], &StateBytes) -> Vec<usize>, numbers: [Range<usize>; 2]) -> Intended {
-    let reason = "state bytes 04 to 06 are states of their own, without any target (document 02, item 3)";
+    let reason = "state bytes 04 to 06 are states of their own, without any target (request 3)";
     Intended { op, inputs: Inputs::States(0x04..=0x06, lines), numbers, end: (0, false), reason }
 }
 
@@ -59,7 +59,7 @@ const fn calibration(op: u8, lines: fn(&[u8], &StateBytes) -> Vec<usize>, number
 const FRAME_END: usize = 3 + 30;
 
 const fn farthest_gates(op: u8, besides: Range<usize>, end: (usize, bool)) -> Intended {
-    let reason = "farthest gates 0 and 1 are refused (document 02, item 7)";
+    let reason = "farthest gates 0 and 1 are refused (request 7)";
     Intended { op, inputs: Inputs::Gates(near), numbers: [1..2, besides], end, reason }
 }
 

@@ -1,6 +1,6 @@
 //! Naive models: the frame writers, the command reader and the division of a stream, written from document 01 alone,
-//! the session, from document 02, item 2, the states, from its item 3, the LD2450, from its item 6, and the farthest
-//! gates, from its item 7.
+//! the session, from request 2, the states, from request 3, the LD2450, from request 6, and the farthest
+//! gates, from request 7.
 
 pub mod commands;
 pub mod division;

@@ -29,6 +29,7 @@ pub struct Mutant {
 type EditNumbers = dyn Fn(&[u8], &mut Vec<u64>);
 type EditLines = dyn Fn(&[u8], &mut Vec<Vec<u64>>);
 type EditArgument = dyn Fn(&mut Vec<u8>);
+type EditEvent = dyn Fn(&Seen<'_>, &mut Vec<u64>);
 
 enum Wrong {
     /// The right answer with the numbers of a line changed, seen beside the argument. Number 0 is the op.
@@ -42,7 +43,7 @@ enum Wrong {
     /// The right answer, held against the original's by another table of intended differences.
     Table(Vec<Intended>),
     /// The right answer to a station script with the numbers of an event's line changed, seen beside the event.
-    Events(fn(&Seen<'_>, &mut Vec<u64>)),
+    Events(Box<EditEvent>),
 }
 
 impl Mutant {
@@ -70,39 +71,53 @@ impl Mutant {
         Self::new(op, mistake, Wrong::Table(table))
     }
 
-    fn events(op: u8, mistake: impl Into<String>, edit: fn(&Seen<'_>, &mut Vec<u64>)) -> Self {
-        Self::new(op, mistake, Wrong::Events(edit))
+    fn events(op: u8, mistake: impl Into<String>, edit: impl Fn(&Seen<'_>, &mut Vec<u64>) + 'static) -> Self {
+        Self::new(op, mistake, Wrong::Events(Box::new(edit)))
     }
 
     /// Whether this variant answers a case otherwise than expected; or, a table, is against the right answer.
-    pub fn differs(&self, case: Case<'_>, expected: &[u8]) -> bool {
+    pub fn differs(&self, case: Case<'_>, Answer { text: expected, lines }: &Answer) -> bool {
         match &self.wrong {
-            Wrong::Numbers(edit) => changed_by(expected, |lines| {
+            Wrong::Numbers(edit) => changed_by(lines, |lines| {
                 let answers = lines.iter_mut().filter(|line| !line.is_empty());
                 answers.for_each(|line| edit(case.argument, line));
             }),
-            Wrong::Lines(edit) => changed_by(expected, |lines| edit(case.argument, lines)),
+            Wrong::Lines(edit) => changed_by(lines, |lines| edit(case.argument, lines)),
             Wrong::Argument(edit) => {
                 let (mut argument, mut answer) = (case.argument.to_vec(), Vec::new());
                 edit(&mut argument);
                 expected::answer(Case { op: case.op, argument: &argument }, &mut answer);
-                answer != expected
+                answer != *expected
             }
             Wrong::Rules(rules) => {
                 let mut answer = Vec::new();
                 expected::answer_by(case, rules, &mut answer);
-                answer != expected
+                answer != *expected
             }
             Wrong::Table(table) => intended::hold(table, case, expected).is_err(),
-            Wrong::Events(edit) => changed_by(expected, |lines| edit_events(case.argument, lines, *edit)),
+            Wrong::Events(edit) => changed_by(lines, |lines| edit_events(case.argument, lines, edit)),
         }
     }
 }
 
+/// The right answer to a case, as it is printed, and the numbers of each of its lines.
+pub struct Answer {
+    text: Vec<u8>,
+    lines: Vec<Vec<u64>>,
+}
+
+impl Answer {
+    pub fn to(case: Case<'_>) -> Self {
+        let mut text = Vec::new();
+        expected::answer(case, &mut text);
+        let lines = numbers_of(&text);
+        Self { text, lines }
+    }
+}
+
 /// Whether an edit changes a number of an answer.
-fn changed_by(answer: &[u8], edit: impl FnOnce(&mut Vec<Vec<u64>>)) -> bool {
-    let right = numbers_of(answer);
-    let mut lines = right.clone();
+fn changed_by(right: &[Vec<u64>], edit: impl FnOnce(&mut Vec<Vec<u64>>)) -> bool {
+    let mut lines = right.to_vec();
     edit(&mut lines);
     lines != right
 }
@@ -132,9 +147,7 @@ fn numbers_of(answer: &[u8]) -> Vec<Vec<u64>> {
 
 /// The numbers of the right answer to an argument, line by line.
 fn right(op: u8, argument: &[u8]) -> Vec<Vec<u64>> {
-    let mut answer = Vec::new();
-    expected::answer(Case { op, argument }, &mut answer);
-    numbers_of(&answer)
+    Answer::to(Case { op, argument }).lines
 }
 
 /// Makes a line a refusal with every other number 0.

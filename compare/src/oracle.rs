@@ -1,5 +1,5 @@
 //! The original Rust's answer of every op, its counters as it has them; for the three added calls (7, 8, 9) the answer
-//! of the model of document 01, and for a station script (20) that of the session of document 02, item 2.
+//! of the model of document 01, and for a station script (20) that of the session of request 2.
 
 pub mod commands;
 pub mod gates;

@@ -69,7 +69,7 @@ struct Input {
 }
 
 impl Input {
-    /// The input with these bytes; each of its frames must be one of item 5 of document 02, and decode.
+    /// The input with these bytes; each of its frames must be one of request 5, and decode.
     fn read(bytes: Vec<u8>) -> io::Result<Self> {
         let mut frames = Vec::new();
         let mut start = 0;
@@ -78,7 +78,7 @@ impl Input {
                 bytes[start..].get(4..6).map_or(0, |length| usize::from(length[0]) + 256 * usize::from(length[1]));
             let frame = start..start + FRAMING + length;
             if !bytes.get(frame.clone()).is_some_and(is_fit) {
-                return Err(io::Error::other(format!("no frame of item 5 that decodes begins at byte {start}")));
+                return Err(io::Error::other(format!("no frame of request 5 that decodes begins at byte {start}")));
             }
             start = frame.end;
             frames.push(frame);

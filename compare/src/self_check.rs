@@ -2,10 +2,9 @@
 //! the fixed list. Both must notice each of them.
 
 use crate::case::Case;
-use crate::expected;
 use crate::generate;
 use crate::list;
-use crate::mutants::{self, Mutant};
+use crate::mutants::{self, Answer, Mutant};
 
 /// How many cases it took to notice each of the variants.
 struct Watch<'a> {
@@ -24,10 +23,9 @@ impl<'a> Watch<'a> {
         if self.noticed.iter().all(Option::is_some) {
             return;
         }
-        let mut expected = Vec::new();
-        expected::answer(case, &mut expected);
+        let answer = Answer::to(case);
         for (mutant, noticed) in self.mutants.iter().zip(&mut self.noticed) {
-            if noticed.is_none() && mutant.differs(case, &expected) {
+            if noticed.is_none() && mutant.differs(case, &answer) {
                 *noticed = Some(self.cases);
             }
         }

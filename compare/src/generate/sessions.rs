@@ -12,17 +12,19 @@ pub const END: [u8; 6] = [1, 0, 0, 0, 0, 0];
 pub const RESTART: [u8; 6] = [9, 0, 0, 0, 0, 0];
 pub const ENGINEERING_ON: [u8; 6] = [4, 1, 0, 0, 0, 0];
 
-/// A command for every word that a session waits for.
-pub const ASKED: [[u8; 6]; 11] = [
+/// Commands of every word that a session waits for, on and off, of one gate and of all; each is one of COMMANDS.
+pub const ASKED: [[u8; 6]; 13] = [
     [2, 8, 8, 5, 0, 0],
     [3, 0, 0, 0, 0, 0],
     ENGINEERING_ON,
     [4, 0, 0, 0, 0, 0],
     [5, 0, 3, 40, 41, 0],
+    [5, 1, 0, 40, 40, 0],
     [6, 0, 0, 0, 0, 0],
-    [7, 7, 0, 0, 0, 0],
+    [7, 8, 0, 0, 0, 0],
     [8, 0, 0, 0, 0, 0],
     RESTART,
+    [10, 0, 0, 0, 0, 0],
     [10, 1, 0, 0, 0, 0],
     [11, 0, 0, 0, 0, 0],
 ];
@@ -82,9 +84,9 @@ pub fn closing() -> Script {
     open().ask(END)
 }
 
-/// Every session: closed and open ones reached in every manner, and every wait.
+/// Every session: every wait, and closed and open ones reached in every manner.
 pub fn sessions() -> Vec<Script> {
-    [closed_sessions(), open_sessions(), waits()].concat()
+    [waits(), closed_sessions(), open_sessions()].concat()
 }
 
 /// Sessions that are opening, from closed and from open, waiting for every word, and closing.

@@ -23,13 +23,13 @@ const LONGEST_PAYLOAD: usize = 65_535 - 14;
 
 pub fn station_cases(cases: &mut Cases<'_>) {
     cases.add(&[]);
-    every_command_and_answer(cases);
     every_kind_before_the_end(cases);
     every_ack(cases);
     every_late_ack(cases);
+    every_buffer(cases);
+    every_command_and_answer(cases);
     every_damaged_frame(cases);
     every_word(cases);
-    every_buffer(cases);
     every_number(cases);
     every_end(cases);
     cases.add(&opening().hand(&ack(ENABLE_WORD, 0, &[0x5A; LONGEST_PAYLOAD])).0);

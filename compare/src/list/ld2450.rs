@@ -1,4 +1,4 @@
-//! Listed cases of ops 30 to 32: each sentence of document 02, item 6, from both sides.
+//! Listed cases of ops 30 to 32: each sentence of request 6, from both sides.
 
 use crate::generate::damage::{damaged, plain_damage};
 use crate::generate::ld2450::frames::good_frames;

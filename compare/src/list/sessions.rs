@@ -1,100 +1,103 @@
-//! Listed cases of op 20: each sentence of document 02, item 2, from both sides.
+//! Listed cases of op 20: each sentence of request 2, from both sides, and of every command.
 
+use crate::generate::acks::WORDS;
 use crate::generate::commands::COMMANDS;
 use crate::generate::sessions::{
-    awaited_acks, closed_sessions, closing, failure, lengths_around, no_frames, open, open_sessions, opening,
-    other_frames, success, waiting, ASKED, ENABLE, ENABLE_WORD, END, END_WORD, ENGINEERING_ON, RESTART,
+    awaited_acks, closed_sessions, failure, lengths_around, no_frames, open, open_sessions, opening, other_frames,
+    success, waiting, ENABLE, ENABLE_WORD, END, RESTART, RESTART_WORD,
 };
 use crate::oracle::commands::command;
 use crate::oracle::sessions::after;
 use crate::published;
 use crate::station::Script;
 
-const ENGINEERING_OFF: [u8; 6] = [4, 0, 0, 0, 0, 0];
-const READ_PARAMETERS: [u8; 6] = [3, 0, 0, 0, 0, 0];
-const SET_MAX_GATES: [u8; 6] = [2, 8, 8, 5, 0, 0];
-const GATE_1: [u8; 6] = [2, 1, 8, 5, 0, 0];
-const GATE_9: [u8; 6] = [2, 9, 8, 5, 0, 0];
-const SENSITIVITY_101: [u8; 6] = [5, 0, 8, 101, 100, 0];
-
 pub fn scripts() -> Vec<Vec<u8>> {
     let mut all = vec![Script::default()];
-    all.extend(refused_commands());
-    all.extend(commands_from_open());
-    all.extend(answers());
-    all.extend(answers_to_no_wait());
-    all.extend(given_up());
-    all.extend(buffers());
+    all.extend(waits().into_iter().flat_map(meetings));
+    all.extend(closed_sessions().into_iter().map(every_command));
+    all.extend(closed_sessions().into_iter().chain(open_sessions()).map(unasked));
+    all.extend(buffers(Script::default(), ENABLE));
+    all.extend(COMMANDS.into_iter().flat_map(|numbers| buffers(open(), numbers)));
     let mut all: Vec<_> = all.into_iter().map(|script| script.0).collect();
     all.extend(ends());
     all
 }
 
-/// Sessions that wait, with words of every kind.
+/// Sessions that wait: opening from closed, and each of COMMANDS that goes from open.
 fn waits() -> Vec<Script> {
-    let mut all = vec![opening(), open().ask(ENABLE)];
-    all.extend([ENGINEERING_ON, ENGINEERING_OFF, RESTART, READ_PARAMETERS].map(waiting));
-    all.push(closing());
+    let mut all = vec![opening()];
+    all.extend(COMMANDS.map(waiting));
+    all.retain(|session| after(&session.0).awaited().is_some());
     all
 }
 
-/// Commands that pass and commands that do not, into buffers long enough and empty: refused while closed or waiting.
-fn refused_commands() -> Vec<Script> {
-    let mut commands = ASKED.to_vec();
-    commands.extend([END, GATE_1, GATE_9, SENSITIVITY_101]);
-    let asked = |script: Script, &numbers: &_| script.ask(numbers).send(numbers, 0, 0);
-    let all = |session: Script| commands.iter().fold(session, asked).send(ENABLE, 0, 0).ask(ENABLE);
-    let mut sessions = waits();
-    sessions.push(Script::default());
-    sessions.into_iter().map(all).collect()
-}
-
-/// Every command from open, and its acknowledgement, failed and not.
-fn commands_from_open() -> Vec<Script> {
-    let word = |numbers| command(numbers).map_or(0, |command| command.word());
-    let mut all: Vec<_> = COMMANDS.map(|numbers| open().ask(numbers).succeed(word(numbers))).to_vec();
-    all.extend(ASKED.map(|numbers| waiting(numbers).fail(word(numbers))));
+/// Everything that a wait may meet.
+fn meetings(wait: Script) -> Vec<Script> {
+    let word = after(&wait.0).awaited().unwrap_or(0);
+    let mut all = ended(&wait, word);
+    all.extend(passed(&wait, word));
+    all.push(given_up(&wait, word));
+    all.push(every_command(wait).succeed(word));
     all
 }
 
-/// What ends a wait, handed over twice, and what passes, before the acknowledgement that ends it.
-fn answers() -> Vec<Script> {
-    let mut all = Vec::new();
-    for session in waits() {
-        let word = after(&session.0).awaited().unwrap_or(0);
-        all.extend(awaited_acks(word).iter().map(|frame| session.clone().hand(frame).hand(frame)));
-        let passing = [other_frames(word), no_frames(word)].concat();
-        all.push(passing.iter().fold(session, |script, bytes| script.hand(bytes)).succeed(word));
-    }
-    all
+/// Ends the wait by its own acknowledgement, good and failed, which comes again. A give-up then changes nothing, and
+/// the last command shows whether the session is open.
+fn ended(wait: &Script, word: u16) -> Vec<Script> {
+    let ended = |frame: &Vec<u8>| wait.clone().hand(frame).hand(frame).give_up().ask(END);
+    awaited_acks(word).iter().map(ended).collect()
 }
 
-/// Frames and a give-up where no wait is on, then `EnableConfig`; closed and open in every manner.
-fn answers_to_no_wait() -> Vec<Script> {
-    let sessions = closed_sessions().into_iter().chain(open_sessions());
-    let unasked = [success(ENABLE_WORD), failure(ENABLE_WORD), success(END_WORD), published::bytes(published::B)];
-    let handed = |session| unasked.iter().fold(session, |script: Script, bytes| script.hand(bytes));
-    sessions.map(|session| handed(session).give_up().ask(ENABLE)).collect()
+/// Hands over all that passes: the acknowledgements of every other word, reports, and bytes that are no frame. Then
+/// ends the wait, by success and by failure.
+fn passed(wait: &Script, word: u16) -> [Script; 2] {
+    let mut passing = acks(|&other| other != word);
+    passing.extend(other_frames(word));
+    passing.extend(no_frames(word));
+    let handed = passing.iter().fold(wait.clone(), |script, bytes| script.hand(bytes));
+    [handed.clone().succeed(word), handed.fail(word)]
 }
 
-/// A wait given up, once and again, its acknowledgement, late, and again in a later opening.
-fn given_up() -> Vec<Script> {
-    let given_up = |session: Script| {
-        let word = after(&session.0).awaited().unwrap_or(0);
-        let closed = session.give_up().give_up().succeed(word).ask(READ_PARAMETERS);
-        closed.ask(ENABLE).fail(word).succeed(ENABLE_WORD)
-    };
-    waits().into_iter().map(given_up).collect()
+/// The acknowledgements, good and failed, of the words of the link that are meant.
+fn acks(meant: impl Fn(&u16) -> bool) -> Vec<Vec<u8>> {
+    WORDS.into_iter().filter(meant).flat_map(|word| [success(word), failure(word)]).collect()
 }
 
-/// Buffers of every length around the frame's, from open, and for `EnableConfig` from closed.
-fn buffers() -> Vec<Script> {
-    let mut all = Vec::new();
-    for numbers in [END, ENABLE, SET_MAX_GATES, GATE_1, GATE_9, SENSITIVITY_101] {
-        all.extend(lengths_around(numbers).map(|length| open().send(numbers, length, 0x5A)));
-    }
-    all.extend(lengths_around(ENABLE).map(|length| Script::default().send(ENABLE, length, 0xFF)));
-    all
+/// Gives up, twice. The acknowledgement is late then: while closed, in a later opening, and in the wait for `Restart`.
+fn given_up(wait: &Script, word: u16) -> Script {
+    let late = |script: Script| script.succeed(word).fail(word);
+    let closed = late(wait.clone().give_up().give_up()).ask(END);
+    let open = late(closed.ask(ENABLE)).succeed(ENABLE_WORD);
+    late(open.ask(RESTART)).succeed(RESTART_WORD)
+}
+
+/// Sends every command, into no buffer and into one that is long enough: a session that waits refuses each, and a
+/// closed one all but `EnableConfig`, which is the last.
+fn every_command(session: Script) -> Script {
+    COMMANDS.into_iter().rev().fold(session, |script, numbers| script.send(numbers, 0, 0).ask(numbers))
+}
+
+/// Hands over every acknowledgement, a report and bytes that are no frame where no wait is on, and gives up. The last
+/// commands show whether the session is closed or open.
+fn unasked(session: Script) -> Script {
+    let mut all = acks(|_| true);
+    all.push(published::bytes(published::B));
+    all.extend(no_frames(ENABLE_WORD));
+    let handed = all.iter().fold(session, |script, bytes| script.hand(bytes));
+    handed.give_up().ask(END).ask(ENABLE)
+}
+
+/// Sends a command into buffers around its frame's length. After those that are too short its acknowledgement and a
+/// give-up change nothing, and it goes into one of just the length.
+fn buffers(session: Script, numbers: [u8; 6]) -> [Script; 3] {
+    let word = command(numbers).map_or(0, |command| command.word());
+    let [none, short, just, longer, longest] = lengths_around(numbers);
+    let refused = session.clone().send(numbers, none, 0x5A).send(numbers, short, 0x5A).succeed(word).give_up();
+    [
+        refused.send(numbers, just, 0x5A).succeed(word),
+        session.clone().send(numbers, longer, 0xFF).fail(word),
+        session.send(numbers, longest, 0x5A).give_up(),
+    ]
 }
 
 /// Scripts that are cut short, and those that a number without an event or a COMMAND that is none ends.

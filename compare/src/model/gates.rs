@@ -1,4 +1,4 @@
-//! Which farthest gates `SetMaxGates` may have, by document 02, item 7.
+//! Which farthest gates `SetMaxGates` may have, by request 7.
 
 /// "Give 2 for a farthest gate of 0 or 1, in the place where gates above 8 get it": 2 to 8 are left, for the moving
 /// gate and for the stationary one.

@@ -1,4 +1,4 @@
-//! The LD2450 of document 02, item 6: what ops 30 to 32 answer.
+//! The LD2450 of request 6: what ops 30 to 32 answer.
 
 pub mod division;
 pub mod frames;
@@ -15,7 +15,7 @@ use streams::{Stream, Totals};
 /// Refusal: "all bytes but such a frame".
 const LAYOUT: u8 = 1;
 
-/// The rules of the item, each one replaceable, so that the self-check can put a wrong one in its place.
+/// The rules of the request, each one replaceable, so that the self-check can put a wrong one in its place.
 #[derive(Clone, Copy)]
 pub struct Rules {
     /// What stands between header and tail; none for bytes that are no frame.

@@ -23,8 +23,8 @@ pub struct Rules {
     pub ld2450: ld2450::Rules,
 }
 
-/// Document 01's rules, with the counters of document 02, item 1, the states of its item 3, the module of its item 6
-/// and the farthest gates of its item 7.
+/// Document 01's rules, with the counters of request 1, the states of request 3, the module of request 6
+/// and the farthest gates of request 7.
 pub const RULES: Rules = Rules {
     state: state::from_byte,
     next_piece: |rest| next_piece(rest, LIMIT),

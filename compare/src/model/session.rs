@@ -1,4 +1,4 @@
-//! The session of document 02, item 2, sentence by sentence, over the original's commands and frames, with farthest
+//! The session of request 2, sentence by sentence, over the original's commands and frames, with farthest
 //! gates as they are given.
 
 use ld2410::{Command, Frame};

@@ -1,4 +1,4 @@
-//! What a state byte says, by document 02, item 3.
+//! What a state byte says, by request 3.
 
 /// A state's number, as `to_byte` gives it, and the targets that are there.
 #[derive(Clone, Copy)]

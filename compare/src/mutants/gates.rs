@@ -1,4 +1,4 @@
-//! Mistakes with farthest gates 0 and 1 of document 02, item 7: encoded, read, and sent.
+//! Mistakes with farthest gates 0 and 1 of request 7: encoded, read, and sent.
 
 use super::writers::BUFFER;
 use super::{refused, Mutant};

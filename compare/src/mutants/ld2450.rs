@@ -1,4 +1,4 @@
-//! Mistakes with the LD2450 of document 02, item 6: in reading a frame, writing one, and parsing a stream.
+//! Mistakes with the LD2450 of request 6: in reading a frame, writing one, and parsing a stream.
 
 mod buffers;
 mod calls;
@@ -60,7 +60,7 @@ pub fn mutants() -> Vec<Mutant> {
     all
 }
 
-/// A variant by other rules of the item.
+/// A variant by other rules of the request.
 fn by(op: u8, mistake: &str, ld2450: Rules) -> Mutant {
     Mutant::rules(op, mistake, rules::Rules { ld2450, ..rules::RULES })
 }

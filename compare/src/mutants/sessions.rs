@@ -1,9 +1,11 @@
-//! Mistakes in the session of document 02, item 2: in its commands, frames and give-ups, and in the script.
+//! Mistakes in the session of request 2: in its commands, frames and give-ups, with any command and
+//! with one alone, and in the script.
 
 mod commands;
 mod frames;
 mod gates;
 mod give_ups;
+mod words;
 
 use ld2410::{Ack, Command, Frame};
 
@@ -28,20 +30,24 @@ pub struct Seen<'a> {
     state: u64,
     /// The word awaited, 0 where none is.
     word: u64,
-    /// The session from which the last command went that was not refused.
+    /// The last command that was not refused, and the session from which it went.
+    sent: Option<Command>,
     sent_from: u64,
 }
 
 type Edit = fn(&Seen<'_>, &mut Vec<u64>);
 
 /// Changes the answer to each event of a script.
-pub fn edit_events(script: &[u8], lines: &mut [Vec<u64>], edit: Edit) {
-    let (mut state, mut word, mut sent_from) = (CLOSED, 0, CLOSED);
+pub fn edit_events(script: &[u8], lines: &mut [Vec<u64>], edit: impl Fn(&Seen<'_>, &mut Vec<u64>)) {
+    let (mut state, mut word) = (CLOSED, 0);
+    let (mut sent, mut sent_from) = (None, CLOSED);
     for (event, line) in events(script).zip(lines) {
         let after = [line[line.len() - 2], line[line.len() - 1]];
-        let accepted = matches!(event, Event::Send { .. }) && line[1] == 0;
-        edit(&Seen { event, state, word, sent_from }, line);
-        sent_from = if accepted { state } else { sent_from };
+        let refused = line[1] != 0;
+        edit(&Seen { event, state, word, sent, sent_from }, line);
+        if let Event::Send { command, .. } = event {
+            (sent, sent_from) = if refused { (sent, sent_from) } else { (Some(command), state) };
+        }
         [state, word] = after;
     }
 }
@@ -133,6 +139,7 @@ pub fn mutants() -> Vec<Mutant> {
     all.extend(of_events(&frames::ENDING));
     all.extend(of_events(&frames::PASSING));
     all.extend(of_events(&give_ups::GIVING_UP));
+    all.extend(words::mutants());
     all.extend(scripts());
     all
 }

@@ -1,4 +1,4 @@
-//! Mistakes with the states of calibration, 04 to 06 of document 02, item 3: read alone, in a report, and written.
+//! Mistakes with the states of calibration, 04 to 06 of request 3: read alone, in a report, and written.
 
 use std::ops::Range;
 

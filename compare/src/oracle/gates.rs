@@ -13,7 +13,7 @@ pub enum Gates {
 }
 
 impl Gates {
-    /// Those of document 02, item 7.
+    /// Those of request 7.
     pub const RIGHT: Self = Self::By(may_be_farthest);
 
     /// Encodes a command as the original does. Farthest gates that a rule does not take get what the original gives to

@@ -4,7 +4,7 @@ use crate::case::Fields;
 use crate::line::Line;
 use crate::model::writers::{put, AckValue, ReportValue, Written};
 
-/// States are 0 to 3 by document 01, and 4 to 6 by document 02, item 3.
+/// States are 0 to 3 by document 01, and 4 to 6 by request 3.
 const LAST_STATE: u8 = 6;
 
 pub fn report_frame(argument: &[u8], out: &mut Vec<u8>) -> Option<()> {

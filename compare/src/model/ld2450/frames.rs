@@ -1,4 +1,4 @@
-//! The LD2450's frame, its reader and its writer, in the words of document 02, item 6.
+//! The LD2450's frame, its reader and its writer, in the words of request 6.
 
 use super::Rules;
 

@@ -6,7 +6,7 @@ use super::{awaits, becomes, Edit, Seen, CLOSED, CLOSING, OPEN, OPENING, WAITING
 use crate::station::Event;
 
 /// Where a buffer starts in the answer.
-const BUFFER: usize = 3;
+pub const BUFFER: usize = 3;
 
 pub const SENDING: [(&str, Edit); 12] = [
     ("EnableConfig is refused from open", |seen, line| {
@@ -125,7 +125,7 @@ pub const REFUSING: [(&str, Edit); 20] = [
 ];
 
 /// Puts the encoder's refusal in the place of a session's.
-fn encoder_first(seen: &Seen<'_>, line: &mut [u64], refusal: u64, earlier: u64) {
+pub fn encoder_first(seen: &Seen<'_>, line: &mut [u64], refusal: u64, earlier: u64) {
     if let Some((number, count, _)) = seen.encoded() {
         if seen.refused(line, refusal) && number == earlier {
             line[1..3].copy_from_slice(&[number, count]);

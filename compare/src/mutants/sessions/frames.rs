@@ -151,13 +151,13 @@ pub const PASSING: [(&str, Edit); 10] = [
 ];
 
 /// Makes a frame that passed end the wait.
-fn end(line: &mut [u64], ok: bool) {
+pub fn end(line: &mut [u64], ok: bool) {
     line[1..3].copy_from_slice(&[1, ok.into()]);
     becomes(line, OPEN);
 }
 
 /// Makes a frame that ended the wait pass.
-fn pass(seen: &Seen<'_>, line: &mut [u64]) {
+pub fn pass(seen: &Seen<'_>, line: &mut [u64]) {
     line[1..3].fill(0);
     awaits(line, seen.state, seen.word);
 }
