@@ -1,13 +1,15 @@
--- An acknowledgement's "data are word, status, payload": the checks in document 01's order, and what data that pass
--- them are read as.
+-- Acknowledgements: "Data are word, status, payload". The checks in document 01's order, and what data that pass them
+-- are read as.
 --   wordIn s, statusIn s   the word and the status of the data s, two bytes each
---   a1, a2           the checks
---   ackChecks        A1, A2, in this order
---   ackOf s          the acknowledgement that data which pass them are read as
---   checkedAck s     the reader's answer: the acknowledgement, or the first check that fails
---   parsedAck s      the same with the refusal that the check gives
---   noAck            every field 0
---   returnedAck r    the number and the values that the answer r returns
+--   a1, a2          the tests of A1 and A2
+--   ackChecks       A1, A2, in this order
+--   ackOf s         the acknowledgement that data which pass them are read as
+--   checkedAs o a   the answer by the first failed check o; a if none failed
+--   checkedAck s    the reader's answer to the data s
+--   parsedAs k      the answer k with the refusal in place of the check
+--   parsedAck s     the reader's answer, with the refusal in place of the check
+--   noAck           every field 0
+--   returnedAck r   the number and the acknowledgement that the answer r returns
 use mathlib.Core.List.{List, [], _∷_}
 use mathlib.Core.Bool.{Bool, false}
 use Prim.Native.Nat.{ℕ, _-_, _/_, _%_}
@@ -41,7 +43,7 @@ a2 s = eqb (wordIn s / 0x0100 % 2) 1
 abbrev pub ackChecks : Checks
 ackChecks = (A1, a1) ∷ (A2, a2) ∷ []
 
--- "it is then cleared": the bit is set, so it is taken away; "`ok` is read as status 0"; the payload is what is left
+-- "it is then cleared": the bit is set, so 0100 is subtracted; "`ok` is read as status 0"; the payload is the rest
 unfoldable pub ackOf : List ℕ → Ack
 ackOf s = record {
   word = wordIn s - 0x0100;

@@ -1,13 +1,14 @@
--- Awaiting an acknowledgement, and reading its payload as the reply.
---   awaited a w readable    the outcome where the word w is awaited and a is given, whose payload is readable or not
---   AwaitedCauses z a w readable r   each number is returned by r exactly in its cause, and beside it every other field
---                           is 0; z is the value that is all 0
+-- Awaiting an acknowledgement, and reading its payload as a reply.
+--   awaited a w readable    the outcome if the word w is awaited and a comes, whose payload is readable or not
+--   AwaitedCauses z a w readable r   r returns each number exactly in its cause, and beside a refusal every other field
+--                           is 0; z is the value with every field 0
+--   spanAs o p              the answer for the outcome o: the span p, or the refusal
 --   expected a w            the answer of `expect`
---   errorIn x               the refusal that such an answer holds
+--   errorIn x               the refusal in the answer x
 --   noSpan                  every field 0
---   returnedSpan x          the number and the values that such an answer returns
---   replied answer r a s    the answer to the acknowledgement a, read from the bytes s, where the reply r is awaited
---   ReplyCauses z r a s b   the same of each number, where that answer returns b
+--   returnedSpan x          what the answer x returns: the number and the span
+--   replied answer r a s    the answer to a, whose payload is in the bytes s, if the reply r is awaited
+--   ReplyCauses z r a s b   AwaitedCauses for b, which that answer returns
 use mathlib.Core.Path.{_≡_}
 use mathlib.Core.Logic.{_≢_, _↔_, _⊎_}
 use mathlib.Core.List.{List}
@@ -30,13 +31,13 @@ unfoldable pub awaited : Ack → ℕ → Bool → Outcome
 awaited a w readable = judged (eqb (a .word) w) (a .ok) readable
 
 pub record AwaitedCauses {A : Type 0} (z : A) (a : Ack) (w : ℕ) (readable : Bool) (r : Returned A) : Type 0 where
-  -- nothing is refused exactly if the word is the awaited one, `ok` is on and the payload readable
+  -- nothing is refused exactly if the word is the awaited one, `ok` is on and the payload is readable
   pub accepted : r .number ≡ 0 ↔ (a .word ≡ w) × (a .ok ≡ true) × (readable ≡ true)
-  -- 1 is given exactly for another word, or with `ok` on for a payload that is not readable
+  -- 1 is returned exactly for another word; or for the awaited word with `ok` on, if the payload is not readable
   pub invalid : r .number ≡ 1 ↔ (a .word ≢ w) ⊎ ((a .word ≡ w) × (a .ok ≡ true) × (readable ≡ false))
-  -- 3 is given exactly for the awaited word with `ok` off
+  -- 3 is returned exactly for the awaited word with `ok` off
   pub hardware : r .number ≡ 3 ↔ (a .word ≡ w) × (a .ok ≡ false)
-  -- and nothing else is given
+  -- no other number is returned
   pub total : (r .number ≡ 0) ⊎ ((r .number ≡ 1) ⊎ (r .number ≡ 3))
   -- "number, other fields 0"
   pub blank : r .number ≢ 0 → r ≡ record { number = r .number; needed = 0; value = z }
@@ -45,11 +46,11 @@ abbrev pub spanAs : Outcome → Span → SpanResult
 spanAs Ok p = Spanned.Ok p
 spanAs (Err e) p = Spanned.Err e
 
--- The span alone has nothing that could be short.
+-- `expect` gives the span and reads no payload, so none is too short.
 unfoldable pub expected : Ack → ℕ → SpanResult
 expected a w = spanAs (awaited a w true) (a .payload)
 
--- Where nothing is refused it is 1, which nobody asks for.
+-- If nothing is refused it is 1, and says nothing.
 abbrev pub errorIn : SpanResult → Error
 errorIn (Spanned.Ok p) = InvalidFormat
 errorIn (Spanned.Err e) = e

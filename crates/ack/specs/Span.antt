@@ -1,5 +1,5 @@
--- Where a payload stands in bytes.
---   payloadIn s p       the bytes of the payload that stands at the span p in the bytes s
+-- A payload's span: its start and length in given bytes.
+--   payloadIn s p   the bytes of s at the span p
 use mathlib.Core.List.{List, []}
 use mathlib.Core.Bool.{cond}
 use Prim.Native.Nat.{ℕ, _+_}

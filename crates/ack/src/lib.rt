@@ -1,6 +1,6 @@
-// Acknowledgements of the LD2410: reading one from a command frame's data, awaiting a command's, and reading its reply.
+// Acknowledgements of the LD2410: reading one from a frame's data, testing it for a word, and reading its reply.
 //
-// Where the Rust's `Ack` borrows its payload, this one says where the payload stands, and a reply takes the bytes too.
+// The Rust's `Ack` borrows its payload. Here an `Ack` has the payload's span, and a reply takes the bytes too.
 mod span;
 
 use refusal::Check;
@@ -32,8 +32,8 @@ ghost use Rattle.reply.specs.Replies.{firmwareReply, noFirmware, firmwareAs, re
 ghost use Rattle.reply.specs.Replies.{macReply, noMac, macAs, returnedMac};
 ghost use Rattle.reply.specs.Parameters.{parametersReply, noParameters, parametersAs, returnedParameters};
 
-// An acknowledgement from the module. Its word is the request's, with the ACK bit cleared, so that it compares directly
-// with the constants of the module `word`. `ok` is read as status 0.
+// An acknowledgement from the module. Its word is the command's, with the ACK bit cleared, so that it compares directly
+// with the constants of `wire::word`. Reading sets `ok` exactly if the status is 0.
 pub struct Ack {
     pub payload: Span,
     pub word: u16,
@@ -41,26 +41,26 @@ pub struct Ack {
     pub ok: bool,
 }
 
-// What reading an acknowledgement's data gives: the acknowledgement, or the first check that fails.
+// The acknowledgement that data are read as, or the first check that fails.
 pub enum CheckedAck {
     Ok(Ack),
     Failed(Check),
 }
 
-// The same with the refusal that the check gives.
+// The acknowledgement that data are read as, or the refusal that the first failed check gives.
 pub enum AckResult {
     Ok(Ack),
     Err(Error),
 }
 
-// The payload of an awaited acknowledgement, or why it is refused.
+// The payload's span in an awaited acknowledgement, or the refusal.
 pub enum SpanResult {
     Ok(Span),
     Err(Error),
 }
 
 impl SpanResult {
-    // The refusal, for who found no payload.
+    // Returns the refusal. It is called only if there is no span.
     fn error(self) -> Error
         ensures told { λ r. ⌜ r ≡ errorIn self ⌝ }
     {
@@ -72,8 +72,8 @@ impl SpanResult {
 }
 
 impl Ack {
-    // Reads the data of a command frame as an acknowledgement. Refusal 1 where they are shorter than four bytes, or the
-    // ACK bit is not set (a command of the host).
+    // Reads the data of a command frame as an acknowledgement. Refuses with 1 data that are shorter than four bytes, or
+    // whose ACK bit is not set (a command of the host).
     pub fn parse(data: &[u8]) -> AckResult
         ensures parsed { λ r. ⌜ r ≡ parsedAck (now («data» .entry)) ⌝ }
         ensures causes { λ r. ⌜ Causes noAck ackChecks (now («data» .entry)) (returnedAck r) ⌝ }
@@ -84,8 +84,8 @@ impl Ack {
         }
     }
 
-    // Where the payload stands, once this is known to acknowledge `word` with success. Refusal 1 for another command's
-    // acknowledgement, then 3 where the module reported a failure.
+    // Returns the payload's span, if this acknowledges `word` with success. Refuses with 1 another command's
+    // acknowledgement, then with 3 a failure that the module reported.
     pub fn expect(self, word: u16) -> SpanResult
         ensures awaited { λ r. ⌜ r ≡ expected self word ⌝ }
         ensures causes { λ r. ⌜ AwaitedCauses noSpan self word true (returnedSpan r) ⌝ }
@@ -100,7 +100,7 @@ impl Ack {
         SpanResult::Ok(span)
     }
 
-    // Reads the reply to `ENABLE_CONFIG` from the bytes that the payload stands in. Refusals as `expect`, and 1 for a
+    // Reads the reply to `ENABLE_CONFIG` from the bytes that hold the payload. Refuses as `expect` does, then with 1 a
     // short payload.
     pub fn enable_config(self, bytes: &[u8]) -> EnableConfigResult
         ensures answered { λ r. ⌜ r ≡ replied enableConfigAs enableConfigReply self (now (bytes .entry)) ⌝ }
@@ -114,7 +114,7 @@ impl Ack {
         read_enable_config(payload(bytes, span))
     }
 
-    // Reads the reply to `READ_FIRMWARE`. Refusals as `enable_config`.
+    // Reads the reply to `READ_FIRMWARE`. Refuses as `enable_config` does.
     pub fn firmware_version(self, bytes: &[u8]) -> FirmwareVersionResult
         ensures answered { λ r. ⌜ r ≡ replied firmwareAs firmwareReply self (now (bytes .entry)) ⌝ }
         ensures causes { λ r. ⌜ ReplyCauses noFirmware firmwareReply self (now (bytes .entry)) (returnedFirmware r) ⌝ }
@@ -126,8 +126,8 @@ impl Ack {
         read_firmware_version(payload(bytes, span))
     }
 
-    // Reads the reply to `READ_PARAMETERS`. Refusals as `enable_config`, and 1 where the payload does not begin with AA
-    // or has more than nine gates.
+    // Reads the reply to `READ_PARAMETERS`. Refuses as `enable_config` does, and with 1 a payload that does not begin
+    // with AA or has more than nine gates.
     pub fn parameters(self, bytes: &[u8]) -> ParametersResult
         ensures answered { λ r. ⌜ r ≡ replied parametersAs parametersReply self (now (bytes .entry)) ⌝ }
         ensures causes { λ r. ⌜ ReplyCauses noParameters parametersReply self (now (bytes .entry))
@@ -140,7 +140,7 @@ impl Ack {
         read_parameters(payload(bytes, span))
     }
 
-    // Reads the reply to `READ_MAC`. Refusals as `enable_config`.
+    // Reads the reply to `READ_MAC`. Refuses as `enable_config` does.
     pub fn mac(self, bytes: &[u8]) -> MacResult
         ensures answered { λ r. ⌜ r ≡ replied macAs macReply self (now (bytes .entry)) ⌝ }
         ensures causes { λ r. ⌜ ReplyCauses noMac macReply self (now (bytes .entry)) (returnedMac r) ⌝ }
@@ -153,7 +153,7 @@ impl Ack {
     }
 }
 
-// Reads an acknowledgement's data by the checks A1 and A2: the acknowledgement, or the first check that fails.
+// Reads an acknowledgement's data by the checks A1 and A2. Returns the acknowledgement, or the first check that fails.
 pub fn checked_ack(data: &[u8]) -> CheckedAck
     ensures read { λ r. ⌜ r ≡ checkedAck (now («data» .entry)) ⌝ }
 {

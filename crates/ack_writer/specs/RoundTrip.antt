@@ -1,12 +1,12 @@
--- Acknowledgements, written and read: refused is "a value that the reader can't give", and "reading and writing again
+-- Acknowledgements, written and read. Refusal 6 is for "a value that the reader can't give". "Reading and writing again
 -- gives equal bytes for every acknowledgement of at most 54 data bytes".
---   AckValue           what the writer is given: word, `ok`, status, payload; ackValue w ok s p, the value of these
---   acknowledged a     the reader's answer that gives the acknowledgement a
---   ackOfValue v       the acknowledgement that a frame of the value v is read as
---   ReadAs f v         f is read as the value v: the reader gives its word, `ok` and status for f, and the bytes of f
---                      at the span that it gives are the payload
---   ackLimit           the most data bytes
---   acks               the writer of acknowledgements and the reader of frames
+--   AckValue         what the writer is given: word, `ok`, status, payload; ackValue w ok s p is the value of these
+--   acknowledged a   the reader's answer that gives the acknowledgement a
+--   ackOfValue v     the acknowledgement that the frame of the value v is read as
+--   ReadAs f v       the string f is read as the value v: the reader gives its word, `ok` and status, and a span at
+--                    which f has its payload
+--   ackLimit         the most data bytes
+--   acks             the writer of acknowledgements and the reader of frames
 use mathlib.Core.Path.{_≡_}
 use mathlib.Core.List.{List}
 use mathlib.Core.Bool.{Bool}
@@ -59,6 +59,6 @@ acks = record {
   frame = λ v. ackFrame (v .word) (v .status) (v .payload);
   Reads = ReadAs;
   Within = λ f. length (dataOf f) ≤ ackLimit;
-  -- "every acknowledgement" of so many
+  -- "every acknowledgement of at most 54 data bytes"
   Kept = λ f. Unit {0};
 }

@@ -23,7 +23,7 @@ const PAYLOAD_START: usize = 4;
 // Longest payload of an acknowledgement that the stream parser accepts.
 const MAX_PAYLOAD: usize = MAX_DATA - PAYLOAD_START;
 
-// Whether the reader can give the value: the ACK bit of its word is clear, `ok` says status 0, and the payload fits.
+// Tests whether a value can be written: its word's ACK bit is clear, `ok` agrees with the status, the payload fits.
 fn writable(word: u16, ok: bool, status: u16, payload: &[u8]) -> bool
     ensures tested { λ r. ⌜ r ≡ writable word ok status (now (payload .entry)) ⌝ }
 {
@@ -36,9 +36,9 @@ fn writable(word: u16, ok: bool, status: u16, payload: &[u8]) -> bool
     payload.len() <= MAX_PAYLOAD
 }
 
-// Writes the frame of an acknowledgement into the front of `out`, and answers the bytes written. Refuses with 6 a value
-// that the reader cannot give, then with 4 a buffer shorter than the frame. Bytes after the frame stay, and a refused
-// call changes none.
+// Writes the frame of an acknowledgement into the front of `out`, and returns the number of bytes written. Refuses with
+// 6 a value that the reader cannot give or a payload above 50 bytes, then with 4 a buffer shorter than the frame. Bytes
+// after the frame stay, and a refused call changes none.
 pub fn write_ack(out: &mut [u8], word: u16, ok: bool, status: u16, payload: &[u8]) -> WriteResult
     ensures told { λ r. ⌜ r ≡ writeResult (unrepresentable word ok status (now (payload .entry)))
         (ackFrame word status (now (payload .entry))) (length (now (out .entry))) ⌝ }

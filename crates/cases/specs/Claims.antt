@@ -1,6 +1,6 @@
 -- The theorem: every row of the table holds. src/lib.rt pins it.
---   table     streams, runs of calls and commands of document 01, what document 02 adds to them, and its sessions
---   AllHold   each of its rows holds
+--   table     streams, runs of calls and commands of documents 01 and 02, and sessions of document 02
+--   AllHold   each row of the table holds
 use mathlib.Core.List.{List, _++_, map}
 use Rattle.wire.specs.Bytes.{Every}
 use Rattle.cases.specs.Row.{Row, stream, run, command, talk, Holds}

@@ -1,14 +1,16 @@
--- The command rows of document 01, "Bytes to try", and its "Gates run 0 to 8"; those of request 7. Buffers are full of 55 before, so
--- that what stays is seen.
---   enableFrame   "`EnableConfig` writes FD FC FB FA 04 00 FF 00 01 00 04 03 02 01"
---   endFrame      the frame of `EndConfig`, which has no value
---   hundredFrame  the frame of `setting 100 100`: "Three records, number 0, 1, 2 (two bytes) and value (four)"
---   gatesFrame m s  the frame of `reaching m s`
---   buffer n      a buffer of n bytes
---   setting m s   the `SetSensitivity` of gate 3 to m and s
---   sensing g     the `SetSensitivity` of the gate g to 50 and 40; sensingFrame a b, its frame, with the gate's two bytes
---   reaching m s  the `SetMaxGates` of the farthest gates m and s, and 5 seconds
---   commands      the rows
+-- The command rows of document 01, "Bytes to try", and rows for its point 6 and for request 7. Buffers are full of 55
+-- before, so that unchanged bytes show.
+--   enableFrame        "`EnableConfig` writes FD FC FB FA 04 00 FF 00 01 00 04 03 02 01"
+--   endFrame           the frame of `EndConfig`, which has no value
+--   hundredFrame       the frame of `setting 100 100`: "Three records, number 0, 1, 2 (two bytes) and value (four)"
+--   gatesFrame m s     the frame of `reaching m s`
+--   buffer n           a buffer of n bytes
+--   setting m s        the `SetSensitivity` of gate 3 to m and s
+--   sensing g          the `SetSensitivity` of the gate g to 50 and 40
+--   sensingFrame a b   the frame of `sensing g`, with the gate's two bytes a and b
+--   numberFrame w v    the frame with the word w and the two-byte value v, both below 256
+--   reaching m s       the `SetMaxGates` of the farthest gates m and s, and 5 seconds
+--   commands           the rows
 use mathlib.Core.List.{List, [], _∷_, _++_}
 use mathlib.Core.Bool.{true, false}
 use Prim.Native.Nat.{ℕ}
@@ -70,22 +72,22 @@ commands =
     -- "101 gets 2 even with an empty buffer", moving or stationary
     ∷ encodes (setting 101 100) [] (Write.Err Unsupported) []
     ∷ encodes (setting 100 101) [] (Write.Err Unsupported) []
-    -- and with a buffer that would do, which stays as it was
+    -- and with a buffer that is long enough, which stays as it was
     ∷ encodes (setting 101 100) (buffer 30) (Write.Err Unsupported) (buffer 30)
     -- "12, 14 or 30 bytes": the shortest
     ∷ encodes EndConfig (buffer 12) (Write.Ok 12) endFrame
-    -- not the document's: the reader, on the bytes that `EnableConfig` writes
+    -- not a row of the document: the reader, on the bytes that `EnableConfig` writes
     ∷ parses enableFrame (Read.Ok EnableConfig)
     -- "Give 2 for a farthest gate of 0 or 1", moving or stationary, even with an empty buffer
     ∷ encodes (reaching 1 8) [] (Write.Err Unsupported) []
     ∷ encodes (reaching 8 1) [] (Write.Err Unsupported) []
-    -- and with a buffer that would do, which stays as it was
+    -- and with a buffer that is long enough, which stays as it was
     ∷ encodes (reaching 0 8) (buffer 30) (Write.Err Unsupported) (buffer 30)
     ∷ encodes (reaching 8 0) (buffer 30) (Write.Err Unsupported) (buffer 30)
     -- "in the place where gates above 8 get it"
     ∷ encodes (reaching 9 8) [] (Write.Err Unsupported) []
     ∷ encodes (reaching 8 9) [] (Write.Err Unsupported) []
-    -- gates 2 to 8 pass, and are read again
+    -- gates 2 to 8 pass: a buffer that is too short gets 4; and they are read again
     ∷ encodes (reaching 2 8) (buffer 30) (Write.Ok 30) (gatesFrame 2 8)
     ∷ encodes (reaching 8 2) (buffer 29) (Write.Err (BufferTooSmall 30)) (buffer 29)
     ∷ encodes (reaching 3 4) [] (Write.Err (BufferTooSmall 30)) []
@@ -97,7 +99,7 @@ commands =
     -- "the command reader gives 5 for such bytes"
     ∷ parses (gatesFrame 1 8) (Read.Err UnknownCommand)
     ∷ parses (gatesFrame 8 0) (Read.Err UnknownCommand)
-    -- "Gates run 0 to 8": of `SetSensitivity` 0 and 1 too; 9 gets 2
+    -- "Gates run 0 to 8": for `SetSensitivity` 0 and 1 pass too; 9 gets 2
     ∷ encodes (sensing (Index 0)) (buffer 30) (Write.Ok 30) (sensingFrame 0x00 0x00)
     ∷ encodes (sensing (Index 1)) (buffer 30) (Write.Ok 30) (sensingFrame 0x01 0x00)
     ∷ encodes (sensing (Index 8)) (buffer 30) (Write.Ok 30) (sensingFrame 0x08 0x00)

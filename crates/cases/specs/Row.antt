@@ -1,16 +1,16 @@
 -- What a row of a table says, and when it holds.
---   Numbers       the four counters, and the length of the unfinished end
---   addedUp ps    the numbers that the pieces ps add up to
---   countedBy p   the numbers that the parser p tells
---   Stream        bytes, the pieces that they divide into, and their numbers
---   StreamHolds   the row is so by the definition of a division, and by the parser
---   Run           calls on a parser, what they do, and the numbers that they leave
---   RunHolds      the row is so by the parser
---   CommandRow    a command written, its answer and the buffer before and after; or bytes read, and the answer
---   CommandHolds  the row is so by what the contracts of `Command::encode` and `read_command` cite
---   Talk          events on a session, the responses, and the session that they leave
---   TalkHolds     the row is so by request 2's machine, and by what the contracts of a session cite
---   Row, Holds    a row of any of these kinds, and when it holds
+--   Numbers          the four counters, and the length of the unfinished end
+--   addedUp ps       the numbers that the pieces ps add up to
+--   countedBy p      the numbers of the parser p
+--   Stream           bytes, the pieces that they divide into, and their numbers
+--   StreamHolds r    the row holds by the definition of a division, and by the parser
+--   Run              calls on a parser, what they do, and the numbers afterwards
+--   RunHolds r       the row holds by the parser
+--   CommandRow       a command written, its answer and the buffer before and after; or bytes read, and the answer
+--   CommandHolds r   the row holds by what the contracts of `Command::encode` and `read_command` cite
+--   Talk             events on a session, the responses, and the session afterwards
+--   TalkHolds r      the row holds by request 2's machine, and by what the contracts of a session cite
+--   Row              a row of any of these kinds; Holds r says when it holds
 use mathlib.Core.Path.{_≡_}
 use mathlib.Core.List.{List}
 use Prim.Native.Nat.{ℕ}
@@ -67,11 +67,11 @@ pub record Stream : Type 0 where
   pub numbers : Numbers
 
 pub record StreamHolds (r : Stream) : Type 0 where
-  -- the bytes divide into the pieces, and no others: a division is the only one
+  -- the bytes divide into the pieces
   pub divided : Division (Open linkLimit) (Whole linkLimit) (r .bytes) (r .pieces)
   -- the pieces add up to the numbers
   pub added : addedUp (r .pieces) ≡ r .numbers
-  -- a fresh parser that is fed the bytes one by one tells the numbers
+  -- a fresh parser that is fed the bytes one by one has the numbers
   pub counted : countedBy (left fresh (feeds (r .bytes))) ≡ r .numbers
 
 pub record Run : Type 0 where
@@ -81,16 +81,15 @@ pub record Run : Type 0 where
   pub numbers : Numbers
 
 pub record RunHolds (r : Run) : Type 0 where
-  -- the calls answer and tell what the row says
+  -- the calls do what the row says
   pub done : did (r .start) (r .calls) ≡ r .history
-  -- the parser that they leave tells the numbers
+  -- the parser that they leave has the numbers
   pub counted : countedBy (left (r .start) (r .calls)) ≡ r .numbers
 
 pub data CommandRow : Type 0 where
   encodes : (c : Command) (before : List ℕ) (answer : WriteResult) (after : List ℕ) → CommandRow
   parses : (s : List ℕ) (answer : CommandResult) → CommandRow
 
--- By the encoder's promises `told` and `left`, and the reader's `read`.
 abbrev pub CommandHolds : CommandRow → Type 0
 CommandHolds (encodes c before answer after) = (writeResult (unsupported c) (commandFrame c) (length before) ≡ answer)
     × (bufferAfter (unsupported c) (commandFrame c) before ≡ after)

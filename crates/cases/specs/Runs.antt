@@ -1,17 +1,17 @@
--- Runs in which something happens, so that no claim about the parser holds of nothing: a report and an acknowledgement
--- are delivered, a malformed frame is not, a reset forgets, a module calibrates, counters pass 32 bits, and stop. Only
--- the reset is a row of the document.
---   acknowledged   the published acknowledgement of `EnableConfig`
---   bIn x          B with the state byte x
---   reportIn t     what B is read as, in the state t: "120 cm at 60, 150 cm at 45, detection 200 cm"
---   bReport        what B is read as: "both targets"
---   engineeringIn x        the published engineering report with the state byte x
---   engineeringReportIn t  what it is read as, in the state t
---   enabled        what the acknowledgement is read as, its payload at byte 4 of the buffer
---   largest        "the largest 64-bit value", as the document's number and not by the definitions' name
---   counting n     a parser whose four counters hold n
---   each, eachDone calls in which every kind of piece that counts ends, and what they do
---   runs           the rows
+-- Runs in which something happens, so that no claim about the parser is empty: a report and an acknowledgement are
+-- delivered, a malformed frame is not, a reset forgets, a module calibrates, counters pass 32 bits, and stop. Only one
+-- run with a reset is a row of the document.
+--   acknowledged      the published acknowledgement of `EnableConfig`
+--   bIn x             B with the state byte x
+--   reportIn t        what B is read as, in the state t: "120 cm at 60, 150 cm at 45, detection 200 cm"
+--   bReport           what B is read as: "both targets"
+--   engineeringIn x   the published engineering report with the state byte x
+--   engineeringReportIn t   what it is read as, in the state t
+--   enabled           what the acknowledgement is read as, its payload at byte 4 of the buffer
+--   largest           "the largest 64-bit value", as a number and not by the name `counterMax`
+--   counting n        a parser whose four counters hold n
+--   each, eachDone    calls that end every kind of piece that counts, and what they do
+--   runs              the rows
 use mathlib.Core.List.{List, [], _∷_, _++_}
 use mathlib.Core.Bool.{true, false}
 use Prim.Native.Nat.{ℕ}
@@ -115,10 +115,10 @@ row p cs ds n = record { start = p; calls = cs; history = ds; numbers = n }
 
 abbrev pub runs : List Run
 runs =
-    -- a report is delivered where its frame ends, in a slice that goes on; the rest is fed again
+    -- a report is delivered where its frame ends, inside a slice; the rest of the slice is fed again
     row fresh (slice (0x00 ∷ b ++ (0xF4 ∷ [])) ∷ slice (0xF4 ∷ []) ∷ [])
     (sliced (0x00 ∷ b ++ (0xF4 ∷ [])) 24 (bReport, []) ∷ sliced (0xF4 ∷ []) 1 nothing ∷ []) (numbers 1 0 1 0 1)
-    -- an acknowledgement is delivered, and its payload stands in the buffer
+    -- an acknowledgement is delivered, and its payload is in the buffer
     ∷ row fresh (slice acknowledged ∷ [])
     (sliced acknowledged 18 (enabled, 0x01 ∷ 0x00 ∷ 0x40 ∷ 0x00 ∷ []) ∷ []) (numbers 1 0 0 0 0)
     -- a whole frame that does not decode ends the slice too, and is answered "no frame"
@@ -135,11 +135,11 @@ runs =
     (sliced (bIn 0x04) 23 (reportIn CalibrationRunning, []) ∷ sliced (bIn 0x05) 23 (reportIn CalibrationDone, [])
     ∷ sliced (bIn 0x06) 23 (reportIn CalibrationFailed, []) ∷ sliced (bIn 0x07) 23 (reportIn Both, []) ∷ [])
     (numbers 4 0 0 0 0)
-    -- the engineering block of such a report is read as of any other
+    -- the engineering block of such a report is read as in any other
     ∷ row fresh (slice (engineeringIn 0x05) ∷ [])
     (sliced (engineeringIn 0x05) 45 (engineeringReportIn CalibrationDone, []) ∷ []) (numbers 1 0 0 0 0)
     -- a stray byte, a broken start and the stray byte that broke it, a frame that decodes and one that does not: each
-    -- counter goes on from 2 to the 32nd, and stays where it is full
+    -- counter goes on past 2 to the power of 32, and stays at its largest number
     ∷ row (counting 4294967296) each eachDone (numbers 4294967297 4294967297 4294967299 4294967297 0)
     ∷ row (counting largest) each eachDone (numbers largest largest largest largest 0)
     ∷ []

@@ -57,7 +57,7 @@ streams =
     ∷ row bare (whole bare ∷ []) (numbers 0 0 0 1 0)
     -- point 8: "For input 00, case B, F4 it prints `1 0 1 0 1`"
     ∷ row (0x00 ∷ b ++ (0xF4 ∷ [])) (stray 0x00 ∷ whole b ∷ unfinished (0xF4 ∷ []) ∷ []) (numbers 1 0 1 0 1)
-    -- not the document's: each kind of piece in one stream; the byte that breaks a start begins the whole frame
+    -- not a row of the document: each kind of piece in one stream; the byte that breaks a start begins the whole frame
     ∷ row (0x00 ∷ 0xF4 ∷ b ++ (0xFD ∷ []))
     (stray 0x00 ∷ broken (0xF4 ∷ []) ∷ whole b ∷ unfinished (0xFD ∷ []) ∷ []) (numbers 1 1 2 0 1)
     -- request 5: after a header and the length 54, B is found if it begins 54 bytes later

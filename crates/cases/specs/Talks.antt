@@ -1,14 +1,14 @@
--- Sessions: a row for each sentence of request 2, and for the commands of document 01's point 6 one by one. A
--- row is mostly one event, and says where it leads and what is answered.
---   ack w on      the module's acknowledgement of the word w, with `ok` on or off
---   report        a report that comes between
---   numberOnly k  "returned with the answer's other fields 0"
---   wrote n       nothing is refused, and n bytes are written
+-- Sessions: rows for the sentences of request 2, and for the commands of document 01's point 6 one by one. Most rows
+-- are one event: what is answered, and where it leads.
+--   ack w on       the module's acknowledgement of the word w, with `ok` on or off
+--   report         a report that comes between
+--   numberOnly k   "returned with the answer's other fields 0"
+--   wrote n        nothing is refused, and n bytes are written
 --   restartFrame, resetFrame, macFrame   the frames of `Restart`, `FactoryReset` and `ReadMac`
---   Named         a command, and its word
---   others        the commands but `EnableConfig`, `EndConfig` and `Restart`
---   plain         these and `Restart`
---   talks         the rows
+--   Named          a command, and its word
+--   others         the commands but `EnableConfig`, `EndConfig` and `Restart`
+--   plain          these and `Restart`
+--   talks          the rows
 use mathlib.Core.List.{List, [], _∷_, _++_, map}
 use mathlib.Core.Bool.{Bool, true, false, cond}
 use Prim.Native.Nat.{ℕ}
@@ -77,7 +77,7 @@ plain = named 0x00A3 Restart ∷ others
 abbrev row : Session → Event → Response → Session → Talk
 row s e r t = record { start = s; events = e ∷ []; responses = r ∷ []; left = t }
 
--- The row of a command that is refused with the number k, into an empty buffer and into one that would do.
+-- A command that is refused with the number k, into an empty buffer and into one that is long enough.
 abbrev refusing : Session → ℕ → Command → Talk
 refusing s k c = record {
   start = s;
@@ -86,7 +86,7 @@ refusing s k c = record {
   left = s;
 }
 
--- The row of a frame that passes.
+-- A frame that passes.
 abbrev passing : Session → Event → Talk
 passing s e = row s e (received Passed) s
 

@@ -1,14 +1,14 @@
--- Which values get 2. Request 7: "Give 2 for a farthest gate of 0 or 1, in the place where gates above 8 get
--- it". Document 01, point 6: "Gates run 0 to 8, sensitivities 0 to 100."
+-- Which values get 2. Request 7: "Give 2 for a farthest gate of 0 or 1, in the place where gates above 8 get it".
+-- Document 01, point 6: "Gates run 0 to 8, sensitivities 0 to 100."
 --   TooNear i           the farthest gate i is 0 or 1
---   TooFar i            it is above 8
---   Outside i           it is either: "outside the paper's range"
---   FarthestGates c r   the request, of the answer r to the command c, whatever the buffer: for farthest gates it is 2
---                       exactly if the moving one or the stationary one is outside
---   Missing g           the module has no gate g: it is above 8, and not "FFFF for all"
+--   TooFar i            the farthest gate i is above 8
+--   Outside i           the farthest gate i is either: "outside the paper's range"
+--   FarthestGates c r   if the command c is a `SetMaxGates`, the answer r is 2 exactly if its moving or its stationary
+--                       gate is outside
+--   Missing g           the gate g is a number above 8, and not "FFFF for all"
 --   TooHigh x           the sensitivity x is above 100
---   Sensitivities c r   the point, of the answer r to the command c: for sensitivities it is 2 exactly if the gate is
---                       missing or one of them is too high
+--   Sensitivities c r   if the command c is a `SetSensitivity`, the answer r is 2 exactly if its gate is missing or one
+--                       of its sensitivities is too high
 use mathlib.Core.Path.{_≡_}
 use mathlib.Core.Logic.{_↔_, _⊎_}
 use Prim.Native.Nat.{ℕ, _≤_, _<_}
@@ -28,7 +28,7 @@ TooFar i = 8 < i
 abbrev pub Outside : ℕ → Type 0
 Outside i = TooNear i ⊎ TooFar i
 
--- Seconds are what two bytes hold.
+-- The seconds are a number of two bytes.
 abbrev pub FarthestGates : Command → WriteResult → Type 0
 FarthestGates c r = (m s n : ℕ) → n ≤ 65535 → c ≡ SetMaxGates m s n → (numberOfWrite r ≡ 2 ↔ Outside m ⊎ Outside s)
 

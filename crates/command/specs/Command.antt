@@ -1,10 +1,10 @@
--- Commands: "a frame is header, length, word, value, tail: 12, 14 or 30 bytes", by the table of document 01's point 6.
+-- Commands: document 01, point 6. "A frame is header, length, word, value, tail: 12, 14 or 30 bytes."
 --   wordOf c         the command's word
---   valueOf c        what stands after it: nothing, a two-byte number, or the values of three records
+--   valueOf c        the value after the word: none, a two-byte number, or the values of three records
 --   commandFrame c   the command's frame
 --   encodable c      whether the module takes the command's values: gates 0 to 8, farthest gates 2 to 8, sensitivities
 --                    0 to 100
---   unsupported c    refusal 2, unless it does
+--   unsupported c    refusal 2, unless the command is encodable
 use mathlib.Core.List.{List}
 use mathlib.Core.Bool.{Bool, true, false, _&&_}
 use mathlib.Core.Option.{Option}
@@ -55,7 +55,7 @@ valueOf ReadMac = Of.Number 1
 abbrev pub commandFrame : Command → List ℕ
 commandFrame c = frameWith (wordOf c) (valueOf c)
 
--- Seconds are what two bytes hold; the code's type says so.
+-- The seconds are a number of two bytes; in the code their type says so.
 abbrev pub encodable : Command → Bool
 encodable EnableConfig = true
 encodable EndConfig = true

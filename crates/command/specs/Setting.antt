@@ -1,11 +1,11 @@
 -- Gates, sensitivities and baud rates: what a command's values may be, and how they are written.
 --   gateValue g     the value for a gate: "gate (hexadecimal FFFF for all)"
---   farthest i      whether the gate i may be the farthest of `SetMaxGates`
---   gateKnown g     whether the module has the gate, or all are meant
---   sensitivity x   whether x is one
---   indexOf b       the selection index of a baud rate, "index 1 to 8"
+--   farthest i      whether the gate i may be a farthest gate of `SetMaxGates`
+--   gateKnown g     whether g is a gate that the module has, or all gates
+--   sensitivity x   whether x is a sensitivity
+--   indexOf b       the selection index of the baud rate b, "index 1 to 8"
 --   baudOf i        the baud rate with the selection index i, if there is one
---   rateOf b        its bits per second
+--   rateOf b        the bits per second of the baud rate b
 use mathlib.Core.Bool.{Bool, true, cond, _&&_}
 use Prim.Native.Nat.{ℕ}
 use lib.Dec.{eqb, leb}

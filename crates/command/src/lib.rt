@@ -1,6 +1,6 @@
 // Commands to the module: their words, values and frames, and the encoder.
 //
-// What the module takes is said once, in `Command::encodable`: the encoder refuses any other value.
+// `Command::encodable` alone says which values the module takes: the encoder refuses any other.
 mod setting;
 
 use cursor::Value;
@@ -25,7 +25,7 @@ ghost use Rattle.command.specs.Claims.{FarthestGates, Sensitivities};
 pub enum Command {
     // Enter configuration mode.
     EnableConfig,
-    // Leave it and resume reporting.
+    // Leave configuration mode and resume reporting.
     EndConfig,
     // Farthest moving and stationary gates, 2 to 8, and how many seconds a target stays reported after it leaves.
     SetMaxGates {
@@ -52,7 +52,7 @@ pub enum Command {
 }
 
 impl Command {
-    // The command word.
+    // Returns the command word.
     pub fn word(self) -> u16
         ensures worded { λ r. ⌜ r ≡ wordOf self ⌝ }
     {
@@ -84,7 +84,7 @@ impl Command {
         }
     }
 
-    // What stands after the word.
+    // Returns the value that follows the word.
     fn value(self) -> Value
         ensures carried { λ r. ⌜ r ≡ valueOf self ⌝ }
     {
@@ -116,8 +116,8 @@ impl Command {
         }
     }
 
-    // Size of the encoded frame, header to tail: 12 bytes without a value, 14 with a two-byte value, 30 with three
-    // records.
+    // Returns the size of the encoded frame, header to tail: 12 bytes without a value, 14 with a two-byte value, 30
+    // with three records.
     pub fn encoded_len(self) -> usize
         ensures counted { λ r. ⌜ r ≡ length (commandFrame self) ⌝ }
         ensures sized { λ r. ⌜ r ≡ sizeWith (valueOf self) ⌝ }
@@ -125,7 +125,7 @@ impl Command {
         self.value().framed_len()
     }
 
-    // Whether the module takes the command's values.
+    // Tests whether the module takes the command's values.
     fn encodable(self) -> bool
         ensures tested { λ r. ⌜ r ≡ encodable self ⌝ }
     {
@@ -144,9 +144,9 @@ impl Command {
         }
     }
 
-    // Encodes the frame into the front of `out`, and answers the bytes written. Refuses with 2 a value that the module
-    // does not take, then with 4 a buffer shorter than the frame. Bytes after the frame stay, and a refused call
-    // changes none.
+    // Encodes the frame into the front of `out`, and returns the number of bytes written. Refuses with 2 a value that
+    // the module does not take, then with 4 a buffer shorter than the frame. Bytes after the frame stay, and a refused
+    // call changes none.
     pub fn encode(self, out: &mut [u8]) -> WriteResult
         ensures told { λ r. ⌜ r ≡ writeResult (unsupported self) (commandFrame self) (length (now (out .entry))) ⌝ }
         ensures left { λ _. ⌜ now (out .exit) ≡ bufferAfter (unsupported self) (commandFrame self)

@@ -6,13 +6,13 @@ ghost use Rattle.command.specs.Setting.{gateValue, gateKnown, farthest, 
 // Highest gate index accepted in a command.
 const MAX_GATE: u8 = 8;
 
-// Lowest farthest gate accepted in `Command::SetMaxGates`.
+// Lowest number of a farthest gate accepted in `Command::SetMaxGates`.
 const MIN_FARTHEST: u8 = 2;
 
 // Highest sensitivity accepted in a command.
 const MAX_SENSITIVITY: u8 = 100;
 
-// Which gate a `Command::SetSensitivity` addresses.
+// The gate that a `Command::SetSensitivity` addresses.
 pub enum Gate {
     Index(u8),
     All,
@@ -31,14 +31,14 @@ pub enum Baud {
     B460800,
 }
 
-// A baud rate, if the module knows one.
+// A baud rate, or none for an index that the module does not know.
 pub enum MaybeBaud {
     Some(Baud),
     None,
 }
 
 impl Gate {
-    // The value that the command carries.
+    // Returns the value that the command carries.
     pub fn value(self) -> u32
         ensures carried { λ r. ⌜ r ≡ gateValue self ⌝ }
     {
@@ -48,7 +48,7 @@ impl Gate {
         }
     }
 
-    // Whether the module has the gate.
+    // Tests whether the module has the gate.
     pub(crate) fn known(self) -> bool
         ensures tested { λ r. ⌜ r ≡ gateKnown self ⌝ }
     {
@@ -60,7 +60,7 @@ impl Gate {
 }
 
 impl Baud {
-    // The selection index that the command carries.
+    // Returns the selection index that the command carries.
     pub fn index(self) -> u16
         ensures carried { λ r. ⌜ r ≡ indexOf self ⌝ }
     {
@@ -76,7 +76,7 @@ impl Baud {
         }
     }
 
-    // The rate for a selection index, if it is one that the module knows.
+    // Returns the rate for a selection index, if the module knows the index.
     pub fn from_index(index: u16) -> MaybeBaud
         ensures found { λ r. ⌜ r ≡ baudOf index ⌝ }
     {
@@ -93,7 +93,7 @@ impl Baud {
         }
     }
 
-    // Bits per second.
+    // Returns the bits per second.
     pub fn bits_per_second(self) -> u32
         ensures told { λ r. ⌜ r ≡ rateOf self ⌝ }
     {
@@ -110,14 +110,14 @@ impl Baud {
     }
 }
 
-// Whether a gate may be the farthest: 2 to 8, as the paper has it; the Rust begins at 0.
+// Tests whether a gate may be the farthest: 2 to 8, as the paper has it; the Rust begins at 0.
 pub(crate) fn may_be_farthest(gate: u8) -> bool
     ensures tested { λ r. ⌜ r ≡ farthest gate ⌝ }
 {
     MIN_FARTHEST <= gate && gate <= MAX_GATE
 }
 
-// Whether both values are sensitivities.
+// Tests whether both values are sensitivities.
 pub(crate) fn are_sensitivities(moving: u8, stationary: u8) -> bool
     ensures tested { λ r. ⌜ r ≡ (sensitivity moving && sensitivity stationary) ⌝ }
 {

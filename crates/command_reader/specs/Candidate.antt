@@ -1,10 +1,13 @@
--- The way of the reader's private functions. Nobody needs to believe this: no contract of a public function cites it.
---   gateFor v, baudFor i    the gate with the value v, the rate with the index i; any where there is none
---   candidate w n a b c     the only command that may have the word w, and the number n for its value or a, b, c in its
---                           records; any where none may
---   candidateIn s           the same by what stands in s at their places
---   encodesTo s c           whether the command c encodes to s
---   ifEncodesTo s c         c, if it does
+-- How the reader's private functions find a command. Nobody needs to believe this: no contract of a public function
+-- cites it.
+--   gateFor v             the gate with the value v; some gate if there is none
+--   orAny m, baudFor i    the rate in m, the rate with the index i; some rate if there is none
+--   lookup w l other      the command beside the word w in l, else `other`
+--   candidate w n a b c   the only command that can have the word w and the value n, or the records a, b, c; some
+--                         command if none can
+--   candidateIn s         the candidate by the numbers at their places in s
+--   encodesTo s c         the command c encodes to s
+--   ifEncodesTo s c       c if it encodes to s, else refusal 5
 use mathlib.Core.List.{List, [], _∷_}
 use mathlib.Core.Bool.{Bool, true, false, cond, _&&_}
 use Prim.Native.Nat.{ℕ, _%_}
@@ -37,7 +40,6 @@ orAny Rate.None = B9600
 unfoldable pub baudFor : ℕ → Baud
 baudFor i = orAny (baudOf i)
 
--- the command beside the word w in a list, or another
 abbrev pub lookup : ℕ → List (ℕ × Command) → Command → Command
 lookup w [] other = other
 lookup w (x ∷ l) other = cond (eqb w (x .0)) (x .1) (lookup w l other)

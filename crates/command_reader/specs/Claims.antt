@@ -1,6 +1,6 @@
 -- Request 7: "the command reader gives 5 for such bytes".
---   NearGates b r   the request, of the answer r to the bytes b: 5, if they are those of a `SetMaxGates` whose moving or
---                   stationary farthest gate is 0 or 1
+--   NearGates b r   the answer r to the bytes b is 5 if they are the frame of a `SetMaxGates` with a farthest gate,
+--                   moving or stationary, of 0 or 1
 use mathlib.Core.Path.{_≡_}
 use mathlib.Core.Logic.{_⊎_}
 use mathlib.Core.List.{List}

@@ -3,7 +3,8 @@
 --   wordIn s           the word of a frame: the first two bytes of its data, little-endian
 --   IsCommandFrame s   s is a frame by the checks F1 to F4, of the command family; its data have the two bytes of a
 --                      word, and the ACK bit of that word is clear
---   numberIn s i       the two-byte number in s at place i, 0 where the bytes are too few
+--   orZero m           the number in m, or 0
+--   numberIn s i       the two-byte number in s at place i, 0 if there are too few bytes
 use mathlib.Core.Path.{_≡_}
 use mathlib.Core.List.{List}
 use Prim.Native.Nat.{ℕ, _/_, _%_, _≤_}
@@ -25,9 +26,9 @@ wordIn s = little (take 2 (dataOf s))
 pub record IsCommandFrame (s : List ℕ) : Type 0 where
   -- "framed"
   pub checked : Passes frameChecks s
-  -- "1 .. for a report header"
+  -- not "a report header"
   pub headed : family s ≡ Found.Some Family.Command
-  -- "word present": "1 .. for data under two bytes"
+  -- "word present": not "data under two bytes"
   pub worded : 2 ≤ length (dataOf s)
   -- "ACK bit clear"
   pub clear : ackBit (wordIn s) ≡ 0

@@ -1,4 +1,4 @@
-// The frames of commands: whole frames of the command family with a word whose ACK bit is clear.
+// The frames of commands: whole command frames with a word whose ACK bit is clear.
 use frame::DATA_START;
 use frame::Envelope;
 use wire::ACK_BIT;
@@ -10,7 +10,7 @@ ghost use mathlib.Core.Logic.{_↔_};
 ghost use mathlib.Core.Bool.{true};
 ghost use Rattle.command_reader.specs.CommandFrame.{IsCommandFrame, numberIn};
 
-// The two-byte number at `at`, or 0 where the bytes are too few.
+// Returns the two-byte number at `at`, or 0 if the bytes are too few.
 pub(crate) fn number_in(bytes: &[u8], at: usize) -> u16
     ensures read { λ r. ⌜ r ≡ numberIn (now (bytes .entry)) at ⌝ }
 {
@@ -20,8 +20,8 @@ pub(crate) fn number_in(bytes: &[u8], at: usize) -> u16
     v
 }
 
-// Whether the bytes are the frame of a command, known or not: F1 to F4 hold, the family is the command's, a word is
-// there, and its ACK bit is clear.
+// Tests whether the bytes are the frame of a command, known or not: F1 to F4 hold, the kind is command, the data begin
+// with a word, and its ACK bit is clear.
 pub(crate) fn is_command_frame(bytes: &[u8]) -> bool
     ensures tested { λ r. ⌜ (r ≡ true) ↔ IsCommandFrame (now (bytes .entry)) ⌝ }
 {

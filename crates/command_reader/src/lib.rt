@@ -1,6 +1,6 @@
-// The reader of command frames: the command that encodes to the bytes.
+// The reader of commands: it finds the command that encodes to the bytes of a frame.
 //
-// The word and the values in a frame leave one command that may encode to it: the reader encodes it, and compares.
+// The word and values in a frame leave one command that can encode to it: the reader encodes that, and compares.
 mod command_frame;
 
 use command::Baud;
@@ -23,7 +23,7 @@ ghost use Rattle.command_reader.specs.Claims.{NearGates};
 // Longest frame of a command.
 const MAX_COMMAND: usize = 30;
 
-// Where the word begins in a frame, where a two-byte value does, and where the values of the three records do.
+// Where the word, a two-byte value, and the values of the three records begin in a frame.
 const WORD: usize = 6;
 
 const NUMBER: usize = 8;
@@ -34,13 +34,13 @@ const SECOND: usize = 16;
 
 const THIRD: usize = 22;
 
-// What the reader answers: the command, or the refusal.
+// The command that was read, or the refusal.
 pub enum CommandResult {
     Ok(Command),
     Err(Error),
 }
 
-// The gate with the value, of which only the lowest byte counts where it is not the value for all.
+// Returns the gate that a value means: all gates for FFFF, else the gate whose index is the value's lowest byte.
 fn gate_for(value: u16) -> Gate
     ensures found { λ r. ⌜ r ≡ gateFor value ⌝ }
 {
@@ -51,7 +51,7 @@ fn gate_for(value: u16) -> Gate
     }
 }
 
-// The rate for the index, or any where the module knows none.
+// Returns the rate for the index, or any rate if the module does not know the index.
 fn baud_for(index: u16) -> Baud
     ensures found { λ r. ⌜ r ≡ baudFor index ⌝ }
 {
@@ -61,8 +61,8 @@ fn baud_for(index: u16) -> Baud
     baud
 }
 
-// The only command that may have this word, and this number for its value or these values in its records. For a word
-// that no command has, any will do: it does not encode to the bytes.
+// Returns the only command that can have this word, and this number as its value or these values in its records. For a
+// word that no command has it returns any command: that one does not encode to the bytes.
 fn candidate(word: u16, number: u16, first: u16, second: u16, third: u16) -> Command
     ensures chosen { λ r. ⌜ r ≡ candidate word number first second third ⌝ }
 {
@@ -91,8 +91,8 @@ fn candidate(word: u16, number: u16, first: u16, second: u16, third: u16) -> Com
     }
 }
 
-// The only command that may encode to the bytes, if one does. Only the word and the lowest bytes of each value are
-// looked at.
+// Returns the only command that can encode to the bytes. It looks only at the word and the two lowest bytes of each
+// value.
 fn candidate_in(bytes: &[u8]) -> Command
     ensures chosen { λ r. ⌜ r ≡ candidateIn (now (bytes .entry)) ⌝ }
 {
@@ -103,7 +103,7 @@ fn candidate_in(bytes: &[u8]) -> Command
     candidate(number_in(bytes, WORD), number, first, second, third)
 }
 
-// The command, if it encodes to the bytes.
+// Returns the command if it encodes to the bytes; else refuses with 5.
 fn if_encodes_to(command: Command, bytes: &[u8]) -> CommandResult
     ensures read { λ r. ⌜ r ≡ ifEncodesTo (now (bytes .entry)) command ⌝ }
 {
@@ -118,8 +118,8 @@ fn if_encodes_to(command: Command, bytes: &[u8]) -> CommandResult
     }
 }
 
-// Reads a command frame: the command that encodes to the bytes. Refuses with 1 what is not one whole frame of the
-// command family with a word whose ACK bit is clear, with 5 such a frame to whose bytes no command encodes. What
+// Reads a command's frame, and returns the command that encodes to the bytes. Refuses with 1 what is not one whole
+// command frame with a word whose ACK bit is clear, then with 5 such a frame to which no command encodes. What
 // `Command::encode` writes is read as the command, and what is read is written again as the same bytes.
 pub fn read_command(bytes: &[u8]) -> CommandResult
     ensures read { λ r. ⌜ ReadTo (now (bytes .entry)) r ⌝ }

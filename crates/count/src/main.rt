@@ -1,5 +1,5 @@
-// Counts what standard input holds: feeds it to a fresh parser, to its end or a failed read, and prints one line,
-// `frames resyncs dropped malformed unfinished`. The input may be of any size: it is read by 4,096 bytes.
+// Counts what standard input holds: feeds it to a fresh parser, up to its end or a failed read, and prints one line,
+// `frames resyncs dropped malformed unfinished`. The input may have any size: it is read 4,096 bytes at a time.
 use counting::print_counts;
 use counting::read_all;
 use libc::STDIN_FILENO;

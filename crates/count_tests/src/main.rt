@@ -1,4 +1,4 @@
-// Inputs of the counting program that its own stored input leaves out. Each prints its line, and `stdout` has the lines
+// Inputs of the counting program that its own stored input leaves out. Each prints one line. `stdout` has the lines
 // that document 01 gives, worked out by hand.
 use counting::feed_all;
 use counting::print_counts;
@@ -7,12 +7,12 @@ use ld2410::Parser;
 use libc::STDIN_FILENO;
 use libc::STDOUT_FILENO;
 
-// The parser's numbers, on a line.
+// Prints the parser's numbers on a line.
 fn show(parser: Parser) {
     print_counts(STDOUT_FILENO, parser);
 }
 
-// The frame, over and over, in two parts: cut at each place, its two ends among them.
+// Feeds the frame again and again in two parts: cut at each place, its two ends included.
 fn cut_everywhere(frame: &[u8]) -> Parser {
     let mut at = Parser::new();
     for cut in 0..=frame.len() {
@@ -23,9 +23,9 @@ fn cut_everywhere(frame: &[u8]) -> Parser {
 }
 
 fn main() {
-    // The stored input: B, 400 times over, which is longer than two read buffers. 400 frames.
+    // The stored input: B 400 times, which is longer than two read buffers. 400 frames.
     show(read_all(STDIN_FILENO));
-    // The same again, of which nothing is left: the empty input.
+    // Standard input again, now at its end: the empty input.
     show(read_all(STDIN_FILENO));
     // No input at all: the read fails, which counts as the end.
     show(read_all(-1));

@@ -1,8 +1,8 @@
--- What a parser has counted, by document 01: the numbers of the division of the bytes that were handed over.
---   FedAll p x s q   the bytes s, fed to the parser x, in which p is pending, leave q: its numbers are those that x had
---                    and those of the division of p and s
+-- What a parser counted, by document 01: the numbers of the division of the bytes that it was fed.
+--   FedAll p x s q   the bytes s, fed to the parser x, in which p is pending, leave q: its counters are those of x plus
+--                    the totals over the division of p and s
 --   Counted s n      the numbers n of a line are those of the division of s
---   Line n           they are those of some bytes: no contract can name the bytes that are read
+--   Line n           the numbers n are those of some bytes; no contract can name the bytes that are read
 use mathlib.Core.Path.{_≡_}
 use mathlib.Core.List.{List, _++_}
 use Prim.Native.Nat.{ℕ, _+_, min}

@@ -1,5 +1,5 @@
 -- The line that the counting program prints.
---   countsOf p   "frames, resyncs, dropped, malformed and unfinished length", of the parser p
+--   countsOf p   the numbers of the parser p: "frames, resyncs, dropped, malformed and unfinished length"
 use Rattle.stream.specs.Length.{linkLimit}
 use Rattle.parser.specs.Feed.{unfinishedOf}
 use Rattle.parser.specs.declared.Parser.{Parser}

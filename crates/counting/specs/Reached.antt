@@ -1,7 +1,7 @@
--- What can be said of a parser that was fed from outside: no contract can name the bytes that are read there.
+-- A parser that was fed from outside: no contract can name the bytes that are read there.
 --   Reached p q        some bytes, fed to the parser p one by one, leave q
---   turnOf p buf got   what a read that answered got for the buffer buf leaves of p, and whether it gave any byte
---   Turned p r         r is what some read leaves of p
+--   turnOf p buf got   the parser p after a read that answered `got` for the buffer buf, and whether it gave any byte
+--   Turned p r         r is what some read makes of p
 use mathlib.Core.Path.{_≡_}
 use mathlib.Core.List.{List}
 use Prim.Native.Nat.{ℕ}

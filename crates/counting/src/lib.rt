@@ -1,4 +1,4 @@
-// Counting what a stream holds: bytes of any number fed to a parser, and its numbers printed on one line.
+// Counting what a stream holds: any number of bytes are fed to a parser, and its numbers printed on one line.
 use ld2410::Parser;
 use ld2410::feed_slice_at;
 ghost use mathlib.Core.Path.{_≡_};
@@ -14,9 +14,9 @@ ghost use Rattle.counting.specs.Reached.{Reached, turnOf, Turned};
 ghost use lib.ListN.{length, take};
 ghost use Rattle.io.specs.Counts.{clamped};
 
-// Feeds all of `bytes`: a slice feed stops after each whole frame, and is called again with the rest. The parser is
-// left as by feeding the bytes one by one, and has counted what demand 3 says, whatever parser it was; of no bytes it
-// is left as it was. The loop has the parser in its parts, and lends the buffer: no byte of it is copied in a turn.
+// Feeds all of `bytes`: a slice feed stops after each whole frame, and is called again with the rest. Any parser is
+// left as by feeding the bytes one by one, and has counted what demand 3 says; no bytes leave it as it was. The loop
+// keeps the parser in its parts and lends the buffer, so that no turn copies it.
 pub fn feed_all(parser: Parser, bytes: &[u8]) -> Parser
     ensures fed { λ r. ⌜ r ≡ left parser (feeds (now (bytes .entry))) ⌝ }
     ensures bytes { λ _. ⌜ Bytes (now (bytes .entry)) ⌝ }
@@ -38,14 +38,14 @@ pub fn feed_all(parser: Parser, bytes: &[u8]) -> Parser
     Parser { buf, scan, stats }
 }
 
-// What a read leaves, and whether more may come.
+// The parser after a read, and whether more may come.
 struct Turn {
     parser: Parser,
     more: bool,
 }
 
-// Feeds what a read put at the start of `buf`, by what it answered: all of it, and nothing else. More may come if there
-// was any. A read that fails counts as the end of the input.
+// Feeds the bytes that a read put at the start of `buf`, all those and no others; `got` is what the read answered. More
+// may come if there was any. A read that fails counts as the end of the input.
 fn feed_read(parser: Parser, buf: &[u8], got: isize) -> Turn
     ensures turned { λ r. ⌜ r ≡ turnOf parser (now (buf .entry)) got ⌝ }
     ensures bytes { λ _. ⌜ Bytes (take (clamped got (length (now (buf .entry)))) (now (buf .entry))) ⌝ }
@@ -57,8 +57,8 @@ fn feed_read(parser: Parser, buf: &[u8], got: isize) -> Turn
     }
 }
 
-// Reads once, and feeds what came. No contract can name the bytes that a read gives, nor say that it was made: that the
-// bytes of this contract are those of the input is what these three lines are trusted for.
+// Reads once, and feeds what came. No contract can name the bytes that a read gives, nor say that the read was made:
+// these three lines are trusted to take the bytes of this contract from the input.
 fn read_some(fd: i32, parser: Parser) -> Turn
     ensures turned { λ r. ⌜ Turned parser r ⌝ }
 {
@@ -67,8 +67,8 @@ fn read_some(fd: i32, parser: Parser) -> Turn
     feed_read(parser, &buf, got)
 }
 
-// Feeds all that can be read from `fd` to a fresh parser. A proved loop has to end, and nothing says that an input
-// does. So the loop counts its turns down, from a number that no run uses up.
+// Feeds all that can be read from `fd` to a fresh parser. A proved loop must end, and nothing says that an input does.
+// So the loop counts its turns down, from a number that no run uses up.
 pub fn read_all(fd: i32) -> Parser
     ensures reached { λ r. ⌜ Reached fresh r ⌝ }
     ensures line { λ r. ⌜ Line (countsOf r) ⌝ }
@@ -97,7 +97,7 @@ pub struct Counts {
 }
 
 impl Counts {
-    // What the parser has counted, and how many bytes of a frame it has in progress.
+    // Returns what the parser has counted, and how many bytes of a frame it has in progress.
     fn of(parser: Parser) -> Self
         ensures told { λ r. ⌜ r ≡ countsOf parser ⌝ }
     {
@@ -112,7 +112,7 @@ impl Counts {
     }
 }
 
-// Prints the line `frames resyncs dropped malformed unfinished`: decimal, one space between, a line feed after. Answers
+// Prints the line `frames resyncs dropped malformed unfinished`: decimal, one space between, a line feed after. Returns
 // the numbers on it; no contract can name what is printed.
 pub fn print_counts(fd: i32, parser: Parser) -> Counts
     ensures told { λ r. ⌜ r ≡ countsOf parser ⌝ }
@@ -130,7 +130,7 @@ fn print_line(fd: i32, counts: Counts) {
     print_number(fd, counts.unfinished as u64, b"\n");
 }
 
-// Prints a number, and what stands after it.
+// Prints a number, and then `end`.
 fn print_number(fd: i32, n: u64, end: &[u8]) {
     io::print_decimal(fd, n);
     io::write_all(fd, end);

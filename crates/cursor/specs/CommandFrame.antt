@@ -1,12 +1,11 @@
 -- The frame of a command: "header, length, word, value, tail".
---   recordBytes k v   a record: "number (two bytes) and value (four)"
+--   recordBytes k v   a record: its number k in two bytes, and its value v in four
 --   valueParts v      the parts of a value: none, a two-byte number, or three records numbered 0, 1, 2
---   valueBytes v      its bytes
---   dataWith w v      a word, then a value: the data of a frame; and frameWith w v, the frame
---   sizeWith v        the frame's size, by the kind of its value v
---   parts h t w v     what is put for it in turn, between the header h and the tail t
---   wholeAt at n      what is answered where they end at place at: the bytes written, if they are the n that are
---                     needed; else 4
+--   valueBytes v      the bytes of a value
+--   dataWith w v      the data of a frame: the word w, then the value v; frameWith w v is the frame
+--   sizeWith v        the size of a frame with the value v
+--   parts h t w v     what is put for the frame, in turn, between the header h and the tail t
+--   wholeAt at n      the answer if the parts end at place at: the bytes written, if at is the n needed; else 4
 use mathlib.Core.List.{List, [], _∷_, _++_}
 use mathlib.Core.Bool.{cond}
 use Prim.Native.Nat.{ℕ, _+_}
@@ -39,7 +38,7 @@ dataWith w v = leBytes 2 w ++ valueBytes v
 abbrev pub frameWith : ℕ → Value → List ℕ
 frameWith w v = framed Command (dataWith w v)
 
--- "12, 14 or 30 bytes": "no value", "two-byte value", "three records"
+-- "12, 14 or 30 bytes": "No value", "Two-byte value", "Three records"
 abbrev pub sizeWith : Value → ℕ
 sizeWith Of.None = 12
 sizeWith (Of.Number v) = 14

@@ -1,9 +1,9 @@
--- A writer that holds the caller's slice: what a put through it answers, and the cursor that it leaves.
---   nextAt at p    the place of the next byte after a put at place at that answered p: after the bytes, or as it was
---   toldBy n p     the answer to p: the bytes written so far, or 4 with the n bytes that are needed in all
---   puts c b       how the bytes b are placed by the cursor c: in its slice, at its position
---   told c b       what c answers to them
---   moved c b      the cursor left: the same slice, with b put into it, and the next position
+-- A writer that holds the caller's slice: what a put through it answers, and the cursor afterwards.
+--   nextAt at p   the next place after a put at place at that answered p: after the bytes, or still at
+--   toldBy n p    the answer if that put answered p: the bytes written so far, or 4 with the n bytes needed in all
+--   puts c b      the answer of the put of the bytes b into the slice of the cursor c, at its position
+--   told c b      the answer of the cursor c to them
+--   moved c b     the cursor afterwards: the same slice, with b put into it, and the next position
 use mathlib.Core.List.{List}
 use Prim.Native.Nat.{ℕ}
 use denote.Ref.{now, at-last}

@@ -1,5 +1,5 @@
--- Parts put into a buffer one after the other, each where it fits.
---   putAll out at bs   the buffer left after the parts bs are put from place at on
+-- Parts put into a buffer one after another, each only if it fits.
+--   putAll out at bs   the buffer out after the parts bs were put from place at on
 --   endAll out at bs   the place after them
 --   joined bs          the parts as one byte string
 use mathlib.Core.List.{List, [], _∷_, _++_}

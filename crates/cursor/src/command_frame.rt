@@ -1,8 +1,8 @@
 // The frames of commands: a word and its value, written through a cursor that holds the caller's slice.
 //
-// `put_value` measures, and a straight function for each kind of value writes. It is called where there is room for the
-// whole frame, so that no put is refused. It drops what each put answers, and answers by the position at its end: a
-// refused put leaves the position, so that the whole frame is told only where as many bytes were put as are needed.
+// `put_value` tests that the whole frame fits. Then a function without branches, one for each kind of value, writes it,
+// and no put is refused. It ignores what each put answers, and answers by its last position: a refused put does not
+// move the position, so success is answered only if as many bytes were put as are needed.
 use crate::Cursor;
 use refusal::Error;
 use wire::FRAMING;
@@ -18,7 +18,7 @@ ghost use Rattle.cursor.specs.Parts.{putAll, endAll};
 ghost use Rattle.cursor.specs.CommandFrame.{frameWith, sizeWith, parts, wholeAt};
 ghost use Rattle.cursor.specs.declared.command_frame.Value.the-variants as Of;
 
-// What stands after a command's word: nothing, a two-byte number, or the values of three records.
+// What follows a command's word: nothing, a two-byte number, or the values of three records.
 pub enum Value {
     None,
     Number(u16),
@@ -26,8 +26,8 @@ pub enum Value {
 }
 
 impl Value {
-    // Size of a command's frame with this value, header to tail: 12 bytes without one, 14 with a two-byte number, 30
-    // with three records.
+    // Returns the size of a command's frame with this value, header to tail: 12 bytes without one, 14 with a two-byte
+    // number, 30 with three records.
     pub fn framed_len(self) -> usize
         ensures counted { λ r. ⌜ r ≡ sizeWith self ⌝ }
     {
@@ -57,7 +57,7 @@ pub fn put_value(out: &mut [u8], word: u16, value: Value) -> WriteResult
     }
 }
 
-// What is answered at the position `pos`, where `needed` bytes are needed in all: the bytes written, or 4.
+// Returns the last position `pos`, the number of bytes written, if it is `needed`; else refuses with 4.
 pub(crate) fn whole(pos: usize, needed: usize) -> WriteResult
     ensures told { λ r. ⌜ r ≡ wholeAt pos needed ⌝ }
 {
@@ -68,7 +68,7 @@ pub(crate) fn whole(pos: usize, needed: usize) -> WriteResult
     }
 }
 
-// Puts the frame's parts in turn, each where it fits.
+// Puts the parts of a frame without a value in turn, each if it fits.
 fn put_bare(out: &mut [u8], needed: usize, header: &[u8], tail: &[u8], word: u16) -> WriteResult
     ensures told { λ r. ⌜ r ≡ wholeAt (endAll (now (out .entry)) 0 (parts (now (header .entry)) (now (tail .entry))
         word Of.None)) needed ⌝ }
@@ -83,7 +83,7 @@ fn put_bare(out: &mut [u8], needed: usize, header: &[u8], tail: &[u8], word: u16
     whole(c.pos, c.needed)
 }
 
-// The same, with a two-byte value after the word.
+// Puts the parts of a frame with a two-byte value after the word.
 fn put_number(
     out: &mut [u8],
     needed: usize,
@@ -106,7 +106,7 @@ fn put_number(
     whole(c.pos, c.needed)
 }
 
-// The same, with three records after the word.
+// Puts the parts of a frame with three records after the word.
 fn put_records(
     out: &mut [u8],
     needed: usize,

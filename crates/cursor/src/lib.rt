@@ -1,9 +1,9 @@
-// A writer that holds the caller's slice: bytes, numbers and records put one after the other, each as a whole or not
-// at all.
+// A writer that holds the caller's slice: it puts bytes, numbers and records one after the other, each whole or not at
+// all.
 //
-// Every method is total: where there is too little room it refuses with 4 and the bytes needed in all, and neither the
-// slice nor the position changes. `Cursor` is private to this crate, and so is its 4. To a caller 4 means that the
-// output is shorter than the frame, which `put_value` tests before anything is put.
+// Every method is total: with too little space it refuses with 4 and the bytes needed in all, and neither the slice nor
+// the position changes. `Cursor` is private to this crate, and so is its 4. To a caller 4 means that the output is
+// shorter than the frame, which `put_value` tests before anything is put.
 mod command_frame;
 
 pub use command_frame::Value;
@@ -19,7 +19,7 @@ ghost use mathlib.Core.List.{_++_};
 ghost use Rattle.wire.specs.Number.{leBytes};
 ghost use Rattle.cursor.specs.Held.{nextAt, toldBy, told, moved};
 
-// The caller's slice, the position of the next byte in it, and the bytes needed in all, which a refusal tells.
+// The caller's slice, the position of the next byte in it, and the bytes needed in all, which a refusal gives.
 struct Cursor<'a> {
     out: &'a mut [u8],
     pos: usize,
@@ -27,7 +27,7 @@ struct Cursor<'a> {
 }
 
 impl<'a> Cursor<'a> {
-    // A cursor at the front of the slice.
+    // Makes a cursor at the front of the slice.
     fn new(out: &'a mut [u8], needed: usize) -> Cursor<'a>
         ensures made { λ r. ⌜ (r .out ≡ out .entry) × (r .pos ≡ 0) × (r .needed ≡ needed) ⌝ }
     {
@@ -72,7 +72,7 @@ impl<'a> Cursor<'a> {
     }
 }
 
-// The position after a put at `at` that answered `p`.
+// Returns the position after a put at `at` that answered `p`.
 fn after(at: usize, p: Placed) -> usize
     ensures next { λ r. ⌜ r ≡ nextAt at p ⌝ }
 {
@@ -82,7 +82,7 @@ fn after(at: usize, p: Placed) -> usize
     }
 }
 
-// What a put that answered `p` tells, where `needed` bytes are needed in all.
+// Turns a put's answer `p` into the cursor's: the position after it, or 4 with the bytes `needed` in all.
 fn tell(needed: usize, p: Placed) -> WriteResult
     ensures told { λ r. ⌜ r ≡ toldBy needed p ⌝ }
 {

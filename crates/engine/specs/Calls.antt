@@ -1,14 +1,15 @@
 -- Calls on a parser, what they did, and the stretches between resets. A is the type of answers.
---   Call          a byte fed, a slice fed, or a reset
---   ByteCall      what the call passes is bytes
---   Goes          the call is no reset
---   feeds         the bytes of a string, fed one by one
---   Did A         what a call did: the byte and its answer; the slice, the count told of it and the answer; a reset
---   taken         the bytes that a call took: of a slice, as many as it told
---   takenBy       the bytes that a list of calls took
---   stretches     01's stretches, as strings
---   soFar         the last of them
---   upToReset     what calls take before the first reset among them
+--   Call             a byte fed, a slice fed, or a reset
+--   ByteCall c       the call c passes bytes alone
+--   Goes c           the call c is no reset
+--   feeds t          the bytes of the string t, fed one by one
+--   Did A            what a call did: the byte and its answer; the slice, its count and its answer; a reset
+--   Took d           what was done is no reset
+--   taken d          the bytes that a call took: of a slice, as many as its count
+--   takenBy ds       the bytes that a list of calls took
+--   stretches p ds   01's stretches, as strings
+--   soFar p ds       the last of them
+--   upToReset ds     the bytes that the calls took before the first reset among them
 use mathlib.Core.List.{List, [], _∷_, _++_, map}
 use Prim.Native.Nat.{ℕ}
 use lib.ListN.{take}
@@ -52,22 +53,21 @@ module _ {A : Type 0} where
   takenBy [] = []
   takenBy (d ∷ ds) = taken d ++ takenBy ds
 
-  -- The strings of the stretches: p, which was pending before the first call, and what the calls took up to a reset;
-  -- and so on from nothing after each reset.
+  -- The first stretch is p, which was pending before the first call, and what the calls took up to a reset. After each
+  -- reset the next one begins empty.
   abbrev pub stretches : List ℕ → List (Did A) → List (List ℕ)
   stretches p [] = p ∷ []
   stretches p (fed b a ∷ ds) = stretches (p ++ (b ∷ [])) ds
   stretches p (sliced bs k a ∷ ds) = stretches (p ++ take k bs) ds
   stretches p (cleared ∷ ds) = p ∷ stretches [] ds
 
-  -- The last of them: the stretch so far, after the calls.
+  -- The stretch so far, after the calls.
   abbrev pub soFar : List ℕ → List (Did A) → List ℕ
   soFar p [] = p
   soFar p (fed b a ∷ ds) = soFar (p ++ (b ∷ [])) ds
   soFar p (sliced bs k a ∷ ds) = soFar (p ++ take k bs) ds
   soFar p (cleared ∷ ds) = soFar [] ds
 
-  -- What the calls take before the first reset among them.
   abbrev pub upToReset : List (Did A) → List ℕ
   upToReset [] = []
   upToReset (fed b a ∷ ds) = b ∷ upToReset ds

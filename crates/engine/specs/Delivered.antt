@@ -1,7 +1,7 @@
--- Which of some calls delivered a whole frame, where there is no reset among them.
---   DeliveredBy P ds t before f after   the calls did ds; up to the end of the whole frame f they took the bytes t; the
+-- Which call delivered a whole frame, among calls without a reset.
+--   DeliveredBy P ds t before f after   the calls did ds, and took the bytes t up to the end of the whole frame f; the
 --                                       pieces of their stretch are `before`, f and `after`. The call that took the
---                                       last byte of f delivered it, if it decodes, once and in order
+--                                       last byte of f delivered f, if it decodes, once and in order
 use mathlib.Core.Path.{_≡_}
 use mathlib.Core.Logic.{_≢_}
 use mathlib.Core.List.{List, [], _∷_, _++_}
@@ -21,6 +21,6 @@ pub record DeliveredBy {A K : Type 0} (P : Protocol A K) (ds : List (Did A)) (t 
   pub last : takenBy earlier ++ taken call ≡ t
   -- it delivered the frame if that decodes, else nothing
   pub its : delivery (P .delivers) call ≡ answer (P .decodes) (P .answerOf) (whole f)
-  -- the calls before it delivered what the pieces before the frame do, and those after it what those after it do
+  -- the calls before it delivered the frames of `before` that decode, and the calls after it those of `after`
   pub before-it : deliveries (P .delivers) earlier ≡ answers (P .decodes) (P .answerOf) before
   pub after-it : deliveries (P .delivers) later ≡ answers (P .decodes) (P .answerOf) after

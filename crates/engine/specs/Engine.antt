@@ -1,8 +1,9 @@
--- A parser as an engine over states S, with answers A and tallies K.
---   Sliced S A     what a slice call gives back: the state, how many bytes it says it took, and the answer
---   Engine S A K   the operations, the counters and their largest number, the unfinished length, the pending string
---   call E         one call: what it leaves, and what it did
---   history E      what calls did, one after another; final E, the state that they left
+-- A parser as an engine over states S, with answers A and counters named by K.
+--   Sliced S A       what a slice call gives back: the state, how many bytes it says it took, and the answer
+--   Engine S A K     the operations, the counters and their largest number, the unfinished length, the pending string
+--   call E           one call: the state that it leaves, and what it did
+--   history E s cs   what the calls cs did, one after another, from the state s
+--   final E s cs     the state that they left
 use mathlib.Core.List.{List}
 use Prim.Native.Nat.{ℕ}
 use Rattle.engine.specs.Runs as Runs
@@ -13,9 +14,9 @@ pub record Sliced (S A : Type 0) : Type 0 where
   pub told : ℕ
   pub answer : A
 
--- `max` is where the counters stop, `pending` the open string that a state stands for, and `unfinished` how long the
--- engine itself says that it is. An answer that points into the state left, as a payload's place in a buffer, holds
--- the bytes that stand there too: a claim about the answer then says that they do.
+-- The counters stop at `max`. `pending` is the open string that a state holds, and `unfinished` its length, as the
+-- engine gives it. An answer that points into the state, as a payload's place in a buffer does, holds the bytes at that
+-- place too, so that a claim about the answer covers them.
 pub record Engine (S A K : Type 0) : Type 0 where
   pub feed : S → ℕ → S × A
   pub slice : S → List ℕ → Sliced S A

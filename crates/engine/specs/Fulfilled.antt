@@ -1,13 +1,15 @@
--- Demand 3 of document 01, for any module: what every list of calls on a parser owes.
---   Protocol      what the document says of a module's stream
---   deliveries    the answers that had a frame, in the order of the calls
---   answers       what the whole frames among some pieces that decode are answered with, in order
---   LastEnds      the last byte that a call took ends a whole frame
---   Answered      an answer is right for the bytes that its call took
---   Told          the count that a slice call told is right
---   CallRight     a call is right, between the bytes that its stretch took before and after it
---   Fulfilled     the claim
---   Same          two parsers did the same, and left the same counters, unfinished length and pending string
+-- Demand 3, for any module: what every list of calls on a parser must do.
+--   Protocol A K           what the papers say of a module's stream; A is the type of answers, K names the counters
+--   delivery d             the answer of a call, if it has a frame; deliveries ds, those of a list of calls, in order
+--   answer p               the answer that delivers the piece p, if it is a whole frame that decodes; answers ps, those
+--                          of a list of pieces, in order
+--   joinOver f ts          the lists that f gives for the strings ts, joined; sumOver f ts, the sum of such numbers
+--   LastEnds ps u t f      the last byte that a call took ends the whole frame f
+--   Answered P ps u t a    the answer a is right for the bytes t that its call took
+--   Told ps n m k          the count k that a slice call gave is right
+--   CallRight P pieces u v d   a call that did d is right, between the bytes u and v of its stretch
+--   Fulfilled P E p s calls   the claim
+--   Same E E′ s s′ calls   two parsers did the same, and left the same counters, unfinished length and pending string
 use mathlib.Core.Path.{_≡_}
 use mathlib.Core.Logic.{_≢_, _↔_}
 use mathlib.Core.List.{List, [], _∷_, _++_}
@@ -20,7 +22,6 @@ use Rattle.framing.specs.Tally.{sum}
 use Rattle.engine.specs.Calls.{Call, Did, fed, sliced, cleared, stretches, soFar, upToReset}
 use Rattle.engine.specs.Engine.{Engine, history, final}
 
--- A is the type of answers, K names the counters.
 pub record Protocol (A K : Type 0) : Type 1 where
   -- which strings are open, and which are whole frames
   pub Open : List ℕ → Type 0
@@ -55,7 +56,6 @@ module _ {A : Type 0} (decodes : List ℕ → Bool) (answerOf : List ℕ → A) 
   answers [] = []
   answers (p ∷ ps) = answer p ++ answers ps
 
--- Over the strings of all the stretches: the lists that f gives, joined; the sum of the numbers that f gives.
 abbrev pub joinOver : {A : Type 0} → (List ℕ → List A) → List (List ℕ) → List A
 joinOver f [] = []
 joinOver f (t ∷ ts) = f t ++ joinOver f ts
@@ -76,14 +76,14 @@ pub record Answered {A K : Type 0} (P : Protocol A K) (ps : List Piece) (u t : L
   -- else its answer was "no frame"
   pub else : P .delivers a ≡ false → a ≡ P .none
 
--- The slice has m bytes, after n bytes of a stretch that with all of the slice has the pieces ps. The count k goes to
--- the end of the first frame that ends at a byte of the slice, or to the slice's end where none does.
+-- The slice has m bytes and comes after n bytes of its stretch; ps are the pieces of the stretch with the whole slice
+-- behind it. The count k reaches the end of the first whole frame that ends at a byte of the slice, or the slice's end
+-- if none does.
 pub data Told (ps : List Piece) (n m k : ℕ) : Type 0 where
   to-frame : (f : List ℕ) → 0 < k → k ≤ m → EndsAt ps (n + k) f
       → ((j : ℕ) (g : List ℕ) → 0 < j → j < k → ¬ EndsAt ps (n + j) g) → Told ps n m k
   to-end : k ≡ m → ((j : ℕ) (g : List ℕ) → 0 < j → j ≤ m → ¬ EndsAt ps (n + j) g) → Told ps n m k
 
--- The call stands between the bytes u and v of its stretch.
 abbrev pub CallRight : {A K : Type 0} → Protocol A K → (List ℕ → List Piece) → (u v : List ℕ) → Did A → Type 0
 CallRight P pieces u v (fed b a) = Answered P (pieces (u ++ (b ∷ v))) u (b ∷ []) a
 CallRight P pieces u v (sliced bs k a) = Answered P (pieces (u ++ (take k bs ++ v))) u (take k bs) a
@@ -96,15 +96,15 @@ pub record Fulfilled {S A K : Type 0} (P : Protocol A K) (E : Engine S A K) (p :
     : Type 0 where
   -- the bytes of each stretch divide in exactly one way
   pub divide : (t : List ℕ) → Divided (P .Open) (P .Whole) t
-  -- each call delivered exactly the frame that decodes and ends with the last byte it took, and each slice feed told
-  -- exactly how many bytes it took
+  -- each call delivered exactly the frame that decodes and ends with the last byte it took, and each slice call gave
+  -- exactly the count of the bytes it took
   pub right : (before : List (Did A)) (d : Did A) (after : List (Did A))
       → history E s calls ≡ before ++ (d ∷ after)
       → CallRight P (λ t. divide t .pieces) (soFar p before) (upToReset after) d
   -- the frames delivered are all the whole frames that decode, each once, in order
   pub delivered : deliveries (P .delivers) (history E s calls)
       ≡ joinOver (λ t. answers (P .decodes) (P .answerOf) (divide t .pieces)) (stretches p (history E s calls))
-  -- each counter holds what it held at the start and its total over all the stretches, or its max if that is less
+  -- each counter holds what it held at the start plus its total over all the stretches, or `max` if that is less
   pub counted : (k : K) → E .counter k (final E s calls)
       ≡ min (E .counter k s + sumOver (λ t. sum (P .adds k) (divide t .pieces)) (stretches p (history E s calls)))
       (E .max)

@@ -6,7 +6,7 @@ pub mod Runs
 pub mod Calls
 -- A parser as an engine.
 pub mod Engine
--- What a list of calls owes: demand 3.
+-- What a list of calls must do: demand 3.
 pub mod Fulfilled
 -- Which call delivered a frame.
 pub mod Delivered

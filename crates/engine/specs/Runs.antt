@@ -1,7 +1,7 @@
 -- Runs of calls on any machine.
---   Machine S C D   a call C in a state S leaves a state, and did D
---   history M s cs  what the calls cs did from the state s, one after another
---   final M s cs    the state that they left
+--   Machine S C D    a machine: a call in C on a state in S leaves a state, and what it did is in D
+--   history M s cs   what the calls cs did from the state s, one after another
+--   final M s cs     the state that they left
 use mathlib.Core.List.{List, [], _∷_}
 
 abbrev pub Machine : Type 0 → Type 0 → Type 0 → Type 0

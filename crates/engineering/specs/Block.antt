@@ -1,12 +1,12 @@
 -- The engineering block of a report: `max_moving_gate`, `max_stationary_gate` (each 0 to 8), that many plus one
 -- energies of each, then reserved bytes.
---   reserved b             the bytes after the energies
---   extraMax               the most that `extra_len` counts
---   extraCount s           how many reserved bytes s are, as far as it counts
---   engineeringOf b        what a block that fits is read as
+--   reserved b             the bytes of the block b after its energies, which document 01 calls reserved
+--   extraMax               where `extra_len` stops
+--   extraCount s           `extra_len` of the reserved bytes s: how many they are, at most extraMax
+--   engineeringOf b        what the block b is read as, if it fits
 --   noEngineering          every field 0
---   engineeringIf flag b   what the block b is read as; every field 0 with the flag off
---   checkedBlock b         the answer to the block b: what it is read as; or that R8 fails, every field 0
+--   engineeringIf flag b   what the block b is read as; every field 0 if the flag is off
+--   checkedBlock b         the answer to the block b: what it is read as; or that R8 fails, with every field 0
 --   noBlock                the answer to a block that does not fit
 --   extraBytes e           the reserved bytes that were kept, with their valid count, at most 8
 --   extraAt e i            reserved byte i, or none

@@ -1,8 +1,8 @@
--- The two gate counts in front of an engineering block: `max_moving_gate`, `max_stationary_gate` (each 0 to 8).
+-- The front of an engineering block, `max_moving_gate` and `max_stationary_gate`. A gate count is one more.
 --   movingGates b, stationaryGates b   how many energies of each the block b announces
---   gatesFit b   the two counts are there and in range, and the energies are there
---   gatesOf b    the two counts of the block b
---   gatesAt b    the two counts of the block b, if it fits
+--   gatesFit b   whether the block b has both bytes, in range, and all the energies that they announce
+--   gatesOf b    the two gate counts of the block b
+--   gatesAt b    the same, if the block fits
 use mathlib.Core.List.{List}
 use mathlib.Core.Bool.{Bool, cond, _&&_}
 use Prim.Native.Nat.{ℕ, _+_}

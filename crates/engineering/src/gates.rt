@@ -1,11 +1,11 @@
-// The two gate counts in front of an engineering block: reading them, where the block fits.
+// The two gate counts at the front of an engineering block: reading them, if the block fits.
 use wire::GATES;
 use wire::MaybeU8;
 use wire::byte_at;
 ghost use mathlib.Core.Path.{_≡_};
 ghost use Rattle.engineering.specs.Gates.{gatesAt};
 
-// How many gates an engineering block reports of each kind: `max_moving_gate` and `max_stationary_gate` plus one.
+// The numbers of gates that a block reports: `max_moving_gate` and `max_stationary_gate`, each plus one.
 pub struct Gates {
     pub moving: u8,
     pub stationary: u8,
@@ -18,7 +18,7 @@ pub enum MaybeGates {
 }
 
 impl Gates {
-    // Reads the counts of a block that fits (check R8): both are there and in range, and so are the energies.
+    // Reads the counts of a block that fits (check R8): both are present and in range, and all energies present.
     pub(crate) fn read(block: &[u8]) -> MaybeGates
         ensures read { λ r. ⌜ r ≡ gatesAt (now (block .entry)) ⌝ }
     {
@@ -36,7 +36,7 @@ impl Gates {
         if stationary_gates > GATES {
             return MaybeGates::None;
         }
-        // Where the last energy is there, all are.
+        // If the last energy is present, all are.
         let MaybeU8::Some(_) = byte_at(block, 1 + moving_gates + stationary_gates) else {
             return MaybeGates::None;
         };

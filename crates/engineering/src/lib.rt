@@ -1,6 +1,6 @@
-// The engineering block of a report: energies by gate and reserved bytes, reading them, and the accessors.
+// The engineering block of a report, energies by gate and reserved bytes: reading it, and its accessors.
 //
-// `Option<Engineering>` of the Rust is a flag beside the block, whose fields are all 0 where the flag is off.
+// The Rust's `Option<Engineering>` is here a flag beside the block. With the flag off, every field of the block is 0.
 mod gates;
 
 use gates::Gates;
@@ -20,37 +20,37 @@ ghost use Rattle.wire.specs.Prefix.{padded};
 ghost use Rattle.wire.specs.Gate.{gateValues};
 ghost use Rattle.engineering.specs.Block.{extraCount, checkedBlock, noBlock, noEngineering, extraBytes, extraAt};
 
-// The most that `extra_len` counts.
+// The largest number that `extra_len` counts.
 const EXTRA_LEN_MAX: usize = 255;
 
-// Reserved bytes, of which the first `count` are valid.
+// Reserved bytes; the first `count` are valid.
 pub struct ExtraBytes {
     pub bytes: [u8; MAX_EXTRA],
     pub count: usize,
 }
 
-// The engineering part of a report: energies by gate, and the first reserved bytes.
+// The engineering block of a report: energies by gate, and the first reserved bytes.
 pub struct Engineering {
-    // How many gates are reported, `max_moving_gate` and `max_stationary_gate` plus one: so many energies are valid.
+    // How many gates are reported, `max_moving_gate` and `max_stationary_gate` plus one: as many energies are valid.
     pub moving_gates: u8,
     pub stationary_gates: u8,
-    // Gate 0 first; 0 past the valid ones.
+    // Energies, gate 0 first; 0 after the valid ones.
     pub moving_energy: [u8; GATES],
     pub stationary_energy: [u8; GATES],
-    // The first reserved bytes, 0 where there are fewer.
+    // The first reserved bytes, and zeros if there are fewer.
     pub extra: [u8; MAX_EXTRA],
     // How many reserved bytes were sent, kept or not; stops at 255.
     pub extra_len: u8,
 }
 
-// What reading an engineering block gives: its fields; or the check that fails, beside fields that are all 0.
+// The fields of an engineering block; or the check that fails, beside fields that are all 0.
 pub struct CheckedEngineering {
     pub failed: MaybeCheck,
     pub engineering: Engineering,
 }
 
 impl Engineering {
-    // Valid moving energies, gate 0 first.
+    // Returns the valid moving energies, gate 0 first.
     pub fn moving(self) -> GateValues
         ensures given { λ r. ⌜ r ≡ gateValues (self .«moving_energy») (self .«moving_gates») ⌝ }
     {
@@ -58,7 +58,7 @@ impl Engineering {
         gate_values(energies, self.moving_gates as usize)
     }
 
-    // Valid stationary energies, gate 0 first.
+    // Returns the valid stationary energies, gate 0 first.
     pub fn stationary(self) -> GateValues
         ensures given { λ r. ⌜ r ≡ gateValues (self .«stationary_energy») (self .«stationary_gates») ⌝ }
     {
@@ -66,7 +66,7 @@ impl Engineering {
         gate_values(energies, self.stationary_gates as usize)
     }
 
-    // The reserved bytes that were kept.
+    // Returns the reserved bytes that were kept.
     pub fn extra(self) -> ExtraBytes
         ensures given { λ r. ⌜ r ≡ extraBytes self ⌝ }
     {
@@ -77,21 +77,21 @@ impl Engineering {
         }
     }
 
-    // Light level on firmware that reports it: reserved byte 0.
+    // Returns the light level, on firmware that reports it: reserved byte 0.
     pub fn light(self) -> MaybeU8
         ensures given { λ r. ⌜ r ≡ extraAt self 0 ⌝ }
     {
         self.extra_at(0)
     }
 
-    // OUT pin state on firmware that reports it: reserved byte 1.
+    // Returns the OUT pin's state, on firmware that reports it: reserved byte 1.
     pub fn out_pin(self) -> MaybeU8
         ensures given { λ r. ⌜ r ≡ extraAt self 1 ⌝ }
     {
         self.extra_at(1)
     }
 
-    // Reserved byte `i`, or `None` where it was not sent or not kept.
+    // Returns reserved byte `i`, or `None` if it was not sent or not kept.
     fn extra_at(self, i: usize) -> MaybeU8
         ensures given { λ r. ⌜ r ≡ extraAt self i ⌝ }
     {
@@ -128,7 +128,7 @@ pub fn read_block(block: &[u8]) -> CheckedEngineering
     }
 }
 
-// An engineering part whose fields are all 0.
+// Returns an engineering block whose fields are all 0.
 pub fn no_engineering() -> Engineering
     ensures zero { λ r. ⌜ r ≡ noEngineering ⌝ }
 {
@@ -142,7 +142,7 @@ pub fn no_engineering() -> Engineering
     }
 }
 
-// A block that does not fit.
+// Returns the answer to a block that does not fit.
 fn no_block() -> CheckedEngineering
     ensures made { λ r. ⌜ r ≡ noBlock ⌝ }
 {
@@ -152,14 +152,14 @@ fn no_block() -> CheckedEngineering
     }
 }
 
-// How many reserved bytes there are, as far as `extra_len` counts.
+// Counts the reserved bytes, up to 255.
 fn extra_count(reserved: &[u8]) -> u8
     ensures counted { λ r. ⌜ r ≡ extraCount (now (reserved .entry)) ⌝ }
 {
     min(reserved.len(), EXTRA_LEN_MAX) as u8
 }
 
-// The first reserved bytes, 0 where there are fewer than are kept.
+// Returns the first reserved bytes, with zeros after them if there are fewer than are kept.
 fn extra_array(src: &[u8]) -> [u8; MAX_EXTRA]
     ensures copied { λ r. ⌜ r ≡ padded 8 (now (src .entry)) ⌝ }
 {

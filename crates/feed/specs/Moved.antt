@@ -1,7 +1,9 @@
--- What bytes do to a scan, to the counters and to a buffer that is lent.
---   emitted            what a step that ended a frame, or none, leaves and answers
---   movedOf, bufOf     a byte fed: the scan, the counters and the answer; the buffer
---   sliceMovedOf, sliceBufOf   the same of a slice
+-- What fed bytes do to a scan, to the counters and to a lent buffer.
+--   emitted e c st buf         the scan, the counters and the answer, after a step that ended the frame e, or none
+--   bufOf limit c buf b        the buffer after the byte b
+--   movedOf limit c st buf b   the scan, the counters and the answer after the byte b
+--   runMoved r                 the scan, the counters and the answer after the run r
+--   sliceBufOf, sliceMovedOf   bufOf and movedOf for a slice
 use mathlib.Core.List.{List}
 use Prim.Native.Nat.{ℕ}
 use lib.ListN.{take}

@@ -1,4 +1,4 @@
-// What the counters count, and a byte tried as the first of a header.
+// Changes of the counters, and a byte tried as the first of a header.
 use scan::Ended;
 use scan::Scan;
 use scan::State;
@@ -11,7 +11,7 @@ use wire::bump;
 ghost use mathlib.Core.Path.{_≡_};
 ghost use Rattle.scan.specs.Start.{abandoned, startOf, counted};
 
-// Gives up a frame in progress whose first `consumed` bytes were taken.
+// Counts a frame in progress that is given up after `consumed` bytes.
 pub(crate) fn abandon(stats: Stats, consumed: usize) -> Stats
     ensures counted { λ r. ⌜ r ≡ abandoned stats consumed ⌝ }
 {

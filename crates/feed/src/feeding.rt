@@ -1,4 +1,4 @@
-// Bytes fed into a buffer that is lent: the scan and the counters go on, and a frame that ended is decoded and counted.
+// Bytes fed into a lent buffer: the scan and the counters go on, and a frame that ended is decoded and counted.
 use crate::counts::count;
 use crate::run::run_at;
 use crate::run::step_at;
@@ -20,27 +20,27 @@ ghost use Rattle.stream.specs.Deliver.{isFrame};
 ghost use Rattle.scan.specs.Start.{counted};
 ghost use Rattle.feed.specs.Moved.{bufOf, movedOf, sliceBufOf, sliceMovedOf};
 
-// What a byte fed leaves, beside the buffer, and the frame that it completed, if any.
+// The scan and the counters after a byte was fed, and the frame that it completed, if any.
 pub struct Moved {
     pub scan: Scan,
     pub stats: Stats,
     pub answer: Frame,
 }
 
-// How many bytes a slice feed took, and the frame that they completed, if any.
+// The number of bytes that a slice feed took, and the frame that they completed, if any.
 pub struct Taken {
     pub count: usize,
     pub frame: Frame,
 }
 
-// What a slice fed leaves, beside the buffer, and its answer.
+// The scan and the counters after a slice was fed, and its answer.
 pub struct MovedSlice {
     pub scan: Scan,
     pub stats: Stats,
     pub answer: Taken,
 }
 
-// Decodes the frame that ended: its data stand at the front of the buffer.
+// Decodes the frame that ended, from its data at the front of the buffer.
 fn emit(buf: &[u8; MAX_FRAME], kind: Kind, len: usize) -> Frame
     ensures emitted { λ r. ⌜ r ≡ decoded 4 kind (take len (now (buf .entry))) .frame ⌝ }
 {
@@ -50,7 +50,7 @@ fn emit(buf: &[u8; MAX_FRAME], kind: Kind, len: usize) -> Frame
     decoded.frame
 }
 
-// Counts the frame that ended: one that does not decode is answered with no frame.
+// Counts the frame that ended; `frame` is no frame if it does not decode.
 fn tally(stats: Stats, frame: Frame) -> Stats
     ensures counted { λ r. ⌜ r ≡ counted (isFrame (frame .kind)) stats ⌝ }
 {
@@ -62,7 +62,7 @@ fn tally(stats: Stats, frame: Frame) -> Stats
     }
 }
 
-// One byte, into a buffer that is lent. The buffer and what is returned are those of the parser that they make up.
+// Feeds one byte to the parser that the lent buffer, the scan and the counters make up.
 pub fn feed_at(buf: &mut [u8; MAX_FRAME], scan: Scan, stats: Stats, byte: u8) -> Moved
     ensures moved { λ r. ⌜ (r ≡ movedOf linkLimit scan stats (now (buf .entry)) byte)
         × (now (buf .exit) ≡ bufOf linkLimit scan (now (buf .entry)) byte) ⌝ }
@@ -88,7 +88,7 @@ pub fn feed_at(buf: &mut [u8; MAX_FRAME], scan: Scan, stats: Stats, byte: u8) ->
     }
 }
 
-// Bytes up to and including the end of the first whole frame, decoded or not, else all of them.
+// Feeds bytes up to and including the end of the first whole frame, decoded or not, else all of them.
 pub fn feed_slice_at(
     buf: &mut [u8; MAX_FRAME],
     scan: Scan,

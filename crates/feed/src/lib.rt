@@ -1,4 +1,4 @@
-// Bytes fed into a lent buffer: a byte's step, the run of a slice; a frame that ended is decoded and counted.
+// Bytes fed into a lent buffer, one or a slice: a frame that ended is decoded and counted.
 mod counts;
 mod feeding;
 mod run;

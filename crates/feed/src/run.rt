@@ -1,4 +1,4 @@
-// What bytes do to a scan: one byte's step, and the run of a slice, without what the frames hold.
+// What bytes do to a scan: the step of one byte, and the run of a slice, without reading what the frames hold.
 use crate::counts::abandon;
 use crate::counts::start;
 use crate::scans::in_data;
@@ -30,7 +30,7 @@ ghost use Rattle.scan.specs.Scan.{wellFormed, orReset};
 ghost use Rattle.scan.specs.Start.{continued, takingOf};
 ghost use Rattle.step.specs.Step.{stepHeader, stepLen, stepData, stepTail, stepOf, stored};
 
-// The header byte that follows `matched` of them.
+// Returns the header byte that follows the first `matched`.
 fn header_byte(kind: Kind, matched: usize) -> u8
     requires { ⌜ matched ≤ 3 ⌝ }
     ensures expected { λ r. ⌜ r ≡ getD (header kind) matched 0 ⌝ }
@@ -41,7 +41,7 @@ fn header_byte(kind: Kind, matched: usize) -> u8
     }
 }
 
-// The tail byte that follows `matched` of them.
+// Returns the tail byte that follows the first `matched`.
 fn tail_byte(kind: Kind, matched: usize) -> u8
     requires { ⌜ matched ≤ 3 ⌝ }
     ensures expected { λ r. ⌜ r ≡ getD (tail kind) matched 0 ⌝ }
@@ -52,7 +52,7 @@ fn tail_byte(kind: Kind, matched: usize) -> u8
     }
 }
 
-// The frame in progress goes on.
+// Returns a step that ends no frame.
 fn continued(scan: Scan, stats: Stats) -> Stepped
     ensures stepped { λ r. ⌜ r ≡ continued scan stats ⌝ }
 {
@@ -63,7 +63,7 @@ fn continued(scan: Scan, stats: Stats) -> Stepped
     }
 }
 
-// The byte was the last of `taken`.
+// Turns a step into a run that took `taken` bytes.
 fn taking(stepped: Stepped, taken: usize) -> Scanned
     ensures scanned { λ r. ⌜ r ≡ takingOf stepped taken ⌝ }
 {
@@ -78,7 +78,7 @@ fn taking(stepped: Stepped, taken: usize) -> Scanned
     }
 }
 
-// A byte where a header byte is due. That 3 are matched is asked by `>=`, which leaves the compiler no number above.
+// Takes a byte where a header byte is due. The test `>= 3`, instead of `== 3`, leaves the compiler no case above 3.
 fn step_header(kind: Kind, matched: usize, stats: Stats, byte: u8) -> Stepped
     requires { ⌜ matched ≤ 3 ⌝ }
     ensures stepped { λ r. ⌜ r ≡ stepHeader kind matched stats byte ⌝ }
@@ -95,7 +95,7 @@ fn step_header(kind: Kind, matched: usize, stats: Stats, byte: u8) -> Stepped
     continued(in_header(kind, matched + 1), stats)
 }
 
-// A byte of the length. The second of a length out of range is tried as a new start.
+// Takes a byte of the length. The second byte of a length out of range is tried as a new start.
 fn step_len(kind: Kind, matched: usize, len: usize, stats: Stats, byte: u8) -> Stepped
     requires { ⌜ len ≤ 255 ⌝ }
     ensures stepped { λ r. ⌜ r ≡ stepLen linkLimit kind matched len stats byte ⌝ }
@@ -107,11 +107,11 @@ fn step_len(kind: Kind, matched: usize, len: usize, stats: Stats, byte: u8) -> S
     if in_range(whole) {
         return continued(in_data(kind, whole, 0), stats);
     }
-    // The header and the first length byte; `start` accounts for this one.
+    // `abandon` counts the header and the first length byte, `start` counts this one.
     start(abandon(stats, 4 + 1), byte)
 }
 
-// A data byte, whatever it is.
+// Takes a data byte, whatever it is.
 fn step_data(kind: Kind, len: usize, pos: usize, stats: Stats) -> Stepped
     requires { ⌜ pos < len ⌝ }
     ensures stepped { λ r. ⌜ r ≡ stepData kind len pos stats ⌝ }
@@ -119,7 +119,7 @@ fn step_data(kind: Kind, len: usize, pos: usize, stats: Stats) -> Stepped
     continued(in_data(kind, len, pos + 1), stats)
 }
 
-// A byte where a tail byte is due. The last of them ends the frame.
+// Takes a byte where a tail byte is due. The last of them ends the frame.
 fn step_tail(kind: Kind, matched: usize, len: usize, stats: Stats, byte: u8) -> Stepped
     requires { ⌜ (matched ≤ 3) × (len ≤ linkLimit) ⌝ }
     ensures stepped { λ r. ⌜ r ≡ stepTail kind matched len stats byte ⌝ }
@@ -164,7 +164,7 @@ fn store(buf: &mut [u8; MAX_FRAME], scan: Scan, byte: u8)
     }
 }
 
-// One byte, into a buffer that is lent. A scan with a number out of range is handled as if reset came first.
+// Takes one byte, with the buffer lent. A scan with a number out of range is handled as if reset came first.
 pub(crate) fn step_at(buf: &mut [u8; MAX_FRAME], scan: Scan, stats: Stats, byte: u8) -> Stepped
     ensures stepped { λ r. ⌜ (r ≡ stepOf linkLimit (orReset linkLimit scan) stats byte)
         × (now (buf .exit) ≡ stored (orReset linkLimit scan) (now (buf .entry)) byte) ⌝ }

@@ -6,7 +6,7 @@ ghost use mathlib.Core.Path.{_≡_};
 ghost use Rattle.scan.specs.Scan.{at, dataAt};
 ghost use Rattle.scan.specs.declared.State.the-variants.{Header, Len, Tail};
 
-// In a header, `matched` of its bytes there.
+// Returns a scan in a header, with `matched` of its bytes taken.
 pub(crate) fn in_header(kind: Kind, matched: usize) -> Scan
     ensures made { λ r. ⌜ r ≡ at Header kind matched 0 0 ⌝ }
 {
@@ -19,7 +19,7 @@ pub(crate) fn in_header(kind: Kind, matched: usize) -> Scan
     }
 }
 
-// In the length, `matched` of its bytes there.
+// Returns a scan in the length, with `matched` of its bytes taken.
 pub(crate) fn in_len(kind: Kind, matched: usize, len: usize) -> Scan
     ensures made { λ r. ⌜ r ≡ at Len kind matched len 0 ⌝ }
 {
@@ -32,7 +32,7 @@ pub(crate) fn in_len(kind: Kind, matched: usize, len: usize) -> Scan
     }
 }
 
-// In the data, `pos` of their bytes there; or, with all of them there, in the tail.
+// Returns a scan in the data, with `pos` of them taken; or in the tail, if those are all.
 pub(crate) fn in_data(kind: Kind, len: usize, pos: usize) -> Scan
     ensures made { λ r. ⌜ r ≡ dataAt kind len pos ⌝ }
 {
@@ -48,7 +48,7 @@ pub(crate) fn in_data(kind: Kind, len: usize, pos: usize) -> Scan
     }
 }
 
-// In the tail, `matched` of its bytes there.
+// Returns a scan in the tail, with `matched` of its bytes taken.
 pub(crate) fn in_tail(kind: Kind, matched: usize, len: usize) -> Scan
     ensures made { λ r. ⌜ r ≡ at Tail kind matched len len ⌝ }
 {

@@ -1,10 +1,14 @@
 -- A frame's envelope: "F1 header is F4 F3 F2 F1 (report) or FD FC FB FA (command); F2 two length bytes; F3 that many
--- data bytes, 0 to 65,535; F4 the rest is exactly the tail."
---   family s       the family that the header of s announces, if it is one
---   announced s    the length that s announces
---   dataOf s       that many bytes after the length
---   f1 .. f4       the checks, and frameChecks, F1 to F4 in this order
---   envelope s     the first check that fails, or the family and the place where the data end
+-- data bytes, 0 to 65,535; F4 the rest is exactly the tail".
+--   family s         the family whose header s begins with, if any
+--   announced s      the length that the length bytes of s announce
+--   dataOf s         that many bytes after the length bytes
+--   isFamily m       m is a family
+--   endsAs m t       t is exactly the tail of the family m
+--   f1, f2, f3, f4   the tests of F1 to F4
+--   frameChecks      F1 to F4, in this order
+--   openedAs m o i   the answer by the family m and the first failed check o, if the data end at place i
+--   envelope s       the answer for s: the first check that fails, or the family and the place where the data end
 use mathlib.Core.List.{List, [], _∷_}
 use mathlib.Core.Bool.{Bool, true, false}
 use Prim.Native.Nat.{ℕ, _+_}
@@ -54,7 +58,6 @@ f4 s = endsAs (family s) (drop (6 + announced s) s)
 abbrev pub frameChecks : Checks
 frameChecks = (F1, f1) ∷ (F2, f2) ∷ (F3, f3) ∷ (F4, f4) ∷ []
 
--- what the family that the header announces and the first check that fails make of a frame whose data end at i
 abbrev pub openedAs : MaybeKind → MaybeCheck → ℕ → Envelope
 openedAs (Found.Some k) Maybe.None i = Data k i
 openedAs (Found.Some k) (Maybe.Some c) i = Failed c

@@ -1,12 +1,18 @@
--- Whole frames: F1 to F4 of the envelope. "Then the body's checks."
---   bodyChecks k      the checks of a body of the family k
---   checksFor s       all that is checked of s, in order: F1 to F4, then the body's, on the data, for the family of s
---   frameOf i k d     the frame of the family k that the data d are read as, an acknowledgement's payload from i on
+-- Whole frames: the checks F1 to F4. "Then the body's checks."
+--   bodyChecks k      the checks of the data of a frame of the family k
+--   onData cs         the checks cs of data, made on the whole frame
+--   thenBody m        the checks of the data, by the family m
+--   checksFor s       every check of s, in order: F1 to F4, then those of its data
+--   startingAt i a    the acknowledgement a, its payload starting at place i
+--   frameOf i k d     the frame that data d of the family k are read as; a payload starts at place i
 --   noFrame           every field 0
---   decoded i k d     the answer for the data d alone: the first check that fails, or the frame
---   checkedFrame s    the answer for a whole frame
---   parsedFrame s     the same with the refusal that the check gives
---   returnedFrame r   the number and the values that such an answer r returns
+--   failingFrame c    the answer if c fails first
+--   frameIf o f       the answer by the first failed check o; the frame f if none failed
+--   decoded i k d     the answer for the data d alone
+--   frameAs m d       the frame that data d of the family m are read as, if m is one
+--   checkedFrame s    the answer for the bytes s: the first check that fails, or the frame
+--   parsedFrame s     the same with the refusal in place of the check
+--   returnedFrame r   the number and the frame that the answer r returns
 use mathlib.Core.List.{List, [], _++_, map}
 use Prim.Native.Nat.{ℕ}
 use Rattle.frame.specs.Envelope.{family, dataOf, frameChecks}
@@ -33,7 +39,6 @@ abbrev pub bodyChecks : Kind → Checks
 bodyChecks Family.Report = reportChecks
 bodyChecks Family.Command = ackChecks
 
--- Checks of the data, as checks of the frame that holds them.
 abbrev pub onData : Checks → Checks
 onData cs = map (λ x. (x .0, λ s. x .1 (dataOf s))) cs
 
@@ -44,7 +49,7 @@ thenBody Found.None = []
 abbrev pub checksFor : List ℕ → Checks
 checksFor s = frameChecks ++ thenBody (family s)
 
--- "a payload's start and length within": the acknowledgement read from the data, its payload beginning at i
+-- "the payload's start and length within the parser's 64 bytes, or within the slice given to `Frame::parse`"
 abbrev pub startingAt : ℕ → Ack → Ack
 startingAt i a = record {
   word = a .word;
@@ -57,7 +62,7 @@ abbrev pub frameOf : ℕ → Kind → List ℕ → Frame
 frameOf i Family.Report d = record { kind = Is.Report; report = reportOf d; ack = noAck }
 frameOf i Family.Command d = record { kind = Is.Ack; report = noReport; ack = startingAt i (ackOf d) }
 
--- "with no frame both are" all 0
+-- "the unused one all 0; with no frame both are"
 abbrev pub noFrame : Frame
 noFrame = record { kind = Is.None; report = noReport; ack = noAck }
 
@@ -71,7 +76,7 @@ frameIf Maybe.None f = record { failed = Maybe.None; frame = f }
 unfoldable pub decoded : ℕ → Kind → List ℕ → CheckedFrame
 decoded i k d = frameIf (firstFailed (bodyChecks k) d) (frameOf i k d)
 
--- the frame that a header announces, and none where it announces none
+-- in a whole frame a payload starts at place 10
 abbrev pub frameAs : MaybeKind → List ℕ → Frame
 frameAs (Found.Some k) d = frameOf 10 k d
 frameAs Found.None d = noFrame

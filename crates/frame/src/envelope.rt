@@ -14,7 +14,7 @@ ghost use Rattle.frame.specs.Envelope.{envelope};
 // Where the data of a frame begin: after the header and the length.
 pub const DATA_START: usize = FRAMING - 4;
 
-// The first check that fails, or the family of the frame and the place where its data end.
+// The first check that fails, or the frame's kind and the place where its data end.
 pub enum Envelope {
     Failed(Check),
     Data(Kind, usize),

@@ -1,8 +1,8 @@
-// Whole frames of the LD2410: header, length, data and tail, with nothing before or after, and the body that the data
-// are.
+// Whole frames of the LD2410: header, length, data and tail, with nothing before or after, and what the data are read
+// as.
 //
 // The Rust's `Frame` borrows an acknowledgement's payload. Here a frame is a kind beside a report and an
-// acknowledgement, of which the unused one is all 0, and the payload is a span of the bytes that were read.
+// acknowledgement, the unused one all 0, and the payload is a span of the bytes that were read.
 mod envelope;
 
 use ack::Ack;
@@ -39,13 +39,13 @@ pub struct Frame {
     pub kind: FrameKind,
 }
 
-// A frame, or the first check that fails beside no frame.
+// A frame; or the first check that fails, beside no frame.
 pub struct CheckedFrame {
     pub failed: MaybeCheck,
     pub frame: Frame,
 }
 
-// The same with the refusal that the check gives.
+// A frame; or the refusal that the first failed check gives, beside no frame.
 pub struct FrameResult {
     pub outcome: Outcome,
     pub frame: Frame,
@@ -54,7 +54,7 @@ pub struct FrameResult {
 // Where an acknowledgement's payload begins in its data.
 const PAYLOAD_START: usize = 4;
 
-// An acknowledgement of which every field is 0.
+// Returns an acknowledgement whose fields are all 0.
 fn no_ack() -> Ack
     ensures empty { λ r. ⌜ r ≡ noAck ⌝ }
 {
@@ -66,7 +66,7 @@ fn no_ack() -> Ack
     }
 }
 
-// No frame: every field 0.
+// Returns no frame: every field is 0.
 pub fn no_frame() -> Frame
     ensures empty { λ r. ⌜ r ≡ noFrame ⌝ }
 {
@@ -78,7 +78,7 @@ pub fn no_frame() -> Frame
 }
 
 impl CheckedFrame {
-    // No frame, since the check failed.
+    // Returns the check that failed, beside no frame.
     fn failing(check: Check) -> Self
         ensures failed { λ r. ⌜ r ≡ failingFrame check ⌝ }
     {
@@ -90,8 +90,8 @@ impl CheckedFrame {
 }
 
 impl Frame {
-    // Decodes the data of a frame of this family. A payload's span begins at `start`, since the data may be a part of
-    // the bytes that it counts in.
+    // Decodes the data of a frame of this kind. A payload's span begins at `start`, since it may refer to more bytes
+    // than the data.
     fn decode_at(kind: Kind, data: &[u8], start: usize) -> CheckedFrame
         ensures decoded { λ r. ⌜ r ≡ decoded start kind (now («data» .entry)) ⌝ }
     {
@@ -152,7 +152,7 @@ impl Frame {
     }
 
     // Decodes one whole frame and gives the first check that it fails: F1 to F4, then the body's. A payload's span
-    // counts in `bytes`. The stream's limits on the length do not hold here: the data may have 0 to 65,535 bytes.
+    // refers to `bytes`. The stream's limits on the length do not hold here: the data may have 0 to 65,535 bytes.
     fn checked(bytes: &[u8]) -> CheckedFrame
         ensures checked { λ r. ⌜ r ≡ checkedFrame (now (bytes .entry)) ⌝ }
     {
@@ -164,8 +164,8 @@ impl Frame {
         }
     }
 
-    // Decodes one whole frame held in `bytes`. Refuses with 1 where F1 to F4 or the body's layout fail, with 2 where
-    // the report's type is unknown.
+    // Decodes one whole frame held in `bytes`. Refuses with 1 if F1 to F4 or the body's layout fail, with 2 if the
+    // report's type is unknown.
     pub fn parse(bytes: &[u8]) -> FrameResult
         ensures parsed { λ r. ⌜ r ≡ parsedFrame (now (bytes .entry)) ⌝ }
         ensures causes { λ r. ⌜ Causes noFrame (checksFor (now (bytes .entry))) (now (bytes .entry))
@@ -181,7 +181,7 @@ impl Frame {
     }
 }
 
-// Decodes the data of a frame of this family, the payload's span counted in the data.
+// Decodes the data of a frame of this kind. A payload's span refers to the data.
 pub fn decode_data(kind: Kind, data: &[u8]) -> CheckedFrame
     ensures decoded { λ r. ⌜ r ≡ decoded 4 kind (now («data» .entry)) ⌝ }
 {

@@ -1,10 +1,10 @@
--- The division of a stream into pieces: document 01, "The division of a stream", for any strings that
--- are called open, and any that are called whole frames.
---   Division s ps     the string s is cut into the pieces ps
---   Divided s         s has one division, and no other
---   EndsAt ps n f     among the pieces ps there is the whole frame f, and it ends after n bytes
---   finished ps       the pieces but the unfinished end: those that no later byte can change
---   cut ps            the bytes of the unfinished end, none where there is none
+-- The division of a stream into pieces: document 01, "The division of a stream", for any choice of the strings that are
+-- open and of those that are whole frames.
+--   Division s ps   the string s is cut into the pieces ps
+--   Divided s       s has exactly one division
+--   EndsAt ps n f   the whole frame f is among the pieces ps, and ends after n bytes
+--   finished ps     the pieces without the unfinished end: those that no later byte can change
+--   cut ps          the bytes of the unfinished end, none if there is none
 use mathlib.Core.Path.{_≡_}
 use mathlib.Core.Logic.{_≢_}
 use mathlib.Core.List.{List, [], _∷_, _++_}

@@ -1,7 +1,7 @@
--- The pieces that a stream falls into: document 01, "The division of a stream".
---   Piece     a part of a stream: a stray byte, a broken start, a whole frame or an unfinished end, with its bytes
---   bytes     the bytes of a piece
---   spelled   the bytes of a list of pieces, joined
+-- The pieces that a stream is cut into, by the names of document 01, "The division of a stream".
+--   Piece        a part of a stream: a stray byte, a broken start, a whole frame or an unfinished end, with its bytes
+--   bytes p      the bytes of a piece
+--   spelled ps   the bytes of a list of pieces, joined
 use mathlib.Core.List.{List, [], _∷_, _++_}
 use Prim.Native.Nat.{ℕ}
 

@@ -1,10 +1,11 @@
--- What a division adds up to, for counters of any kind.
---   sum f ps      the sum of the number f over the pieces ps
---   resynced      1 for a broken start: 01's resyncs
---   lost          the bytes of a piece that is in no frame, stray or a broken start: 01's dropped
---   inFrames      the bytes of a whole frame
---   waiting       the bytes of an unfinished end
---   passed test   1 for a whole frame that passes the test: 01's frames and malformed
+-- What a piece adds to a counter, and what a division adds up to.
+--   sum f ps        the sum of the numbers f over the pieces ps
+--   resynced p      1 for a broken start: 01's resyncs
+--   lost p          how many bytes a stray byte or a broken start has: 01's dropped
+--   inFrames p      how many bytes a whole frame has
+--   waiting p       how many bytes an unfinished end has
+--   passed test p   1 for a whole frame that passes the test: 01's frames and malformed
+-- Every other piece adds 0.
 use mathlib.Core.List.{List, [], _∷_}
 use mathlib.Core.Bool.{Bool, cond}
 use Prim.Native.Nat.{ℕ, _+_}

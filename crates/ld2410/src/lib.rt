@@ -1,5 +1,5 @@
 // The front door of the LD2410's serial link: what a user of the link names, and nothing else. Each name is declared in
-// the room that it belongs to; what a room declares besides is for other rooms, and no entry point.
+// its own crate; what else a crate declares is for other crates, and no entry point.
 
 // Sizes and command words.
 pub use wire::ACK_BIT;

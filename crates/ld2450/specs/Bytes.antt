@@ -1,12 +1,13 @@
--- A target's eight bytes, and which targets may be written: request 6.
---   isZero z           z is 0
---   presentBytes t     the bytes of a target that is there
---   targetBytes t      the eight bytes of the target t
---   targetsBytes ts    those of targets, one after another
---   targetsFrame ts    the frame around them
---   writable t         the target t may be written; allWritable ts, each of the targets may
---   unrepresentable ts refusal 6, unless they may
---   Unsayable t        no bytes say the target t, by the request's two causes; SomeUnsayable ts, one of the targets is such
+-- A target's eight bytes, and which targets can be written: request 6.
+--   isZero z             whether z is 0
+--   presentBytes t       the eight bytes of a target t that is present
+--   targetBytes t        the eight bytes of the target t
+--   targetsBytes ts      the bytes of the targets ts, one after another
+--   targetsFrame ts      the frame around them
+--   writable t           whether the target t can be written; allWritable ts, whether each of the targets can
+--   unrepresentable ts   refusal 6, unless they can
+--   Unsayable t          no bytes say the target t, for one of the request's two causes
+--   SomeUnsayable ts     one of the targets is such
 use mathlib.Core.Path.{_≡_}
 use mathlib.Core.Logic.{_≢_}
 use mathlib.Core.List.{List, [], _∷_, _++_}

@@ -1,8 +1,8 @@
--- What request 6 prints of its signed numbers, and where the fields stand in a frame.
+-- What request 6 prints of its signed numbers, and where the fields are in a frame.
 --   said a b         the number that the byte a and the byte b after it say
---   seen             a frame of three targets: `apart`, at x -782, y 1,713; `zeros`, there with every field 0; and none
---   crowd            a frame of three targets that are there, no field of one as in another: `apart`, `ahead`, `aside`
---   Examples         "So 0E 03 is -782, B1 86 is 1,713, and 00 00 and 00 80 are both 0."
+--   seen             a frame of three targets: `apart`, at x -782, y 1,713; `zeros`, present and all 0; and none
+--   crowd            a frame of three present targets, no two alike in any field: `apart`, `ahead`, `aside`
+--   Examples         "So 0E 03 is -782, B1 86 is 1,713, and 00 00 and 00 80 are both 0."; and how these frames are read
 --   WrittenExample   the frames that are written for these targets: "zero of a present target as 00 80"
 use mathlib.Core.Path.{_≡_}
 use mathlib.Core.Bool.{true}

@@ -1,13 +1,13 @@
 -- The LD2450's frame, and what it is read as: request 6.
---   header, tail      the bytes that begin and end a frame
---   framed d          the frame with the target bytes d
---   IsFrame s         s is a frame; isFrame s, the same as a test
---   heldIn s          the target bytes of a frame
---   noTargets         no targets: every field 0
---   parsedTargets s   the reader's answer for s
---   returnedTargets r what the answer r returns
---   ReadCauses s r    r has 1 exactly where s is no frame, with every field 0, and else the frame's targets
---   OneAnswer s       these causes leave no choice of number and targets
+--   header, tail        the bytes that begin and end a frame
+--   framed d            the frame with the target bytes d
+--   IsFrame s           s is a frame; isFrame s is the same as a test
+--   heldIn s            the target bytes of the frame s
+--   noTargets           three absent targets: every field 0
+--   parsedTargets s     the reader's answer for s
+--   returnedTargets r   what the answer r returns
+--   ReadCauses s r      r returns 1 and every other field 0 exactly if s is no frame, else the targets of the frame
+--   OneAnswer s         these causes leave no choice of number and targets
 use mathlib.Core.Path.{_≡_}
 use mathlib.Core.Logic.{_↔_, _⊎_}
 use mathlib.Core.List.{List, [], _∷_, _++_}

@@ -1,6 +1,6 @@
 -- Signed numbers of two bytes: request 6.
---   signedOf n   the number that the two-byte number n says
---   sayable z    some two-byte number says z: of sixteen bits each but -32,768
+--   signedOf n   the signed number that the two-byte number n says
+--   sayable z    whether two bytes can say the sixteen-bit number z: any but -32,768
 --   rawOf z      the two-byte number that is written for z in a present target
 use mathlib.Core.Bool.{Bool, true, cond}
 use Prim.Native.Nat.{ℕ, suc, _+_, _%_}

@@ -1,8 +1,9 @@
 -- A target, read from its eight bytes: request 6.
---   absent       no target: every field 0
---   fieldAt b i  the two-byte number at place i of the bytes b
---   targetOf b   the target that the eight bytes b are
---   threeOf d    the three targets that 24 bytes are
+--   absent        no target: every field 0
+--   fieldAt b i   the two-byte number at place i of the bytes b
+--   presentOf b   the present target with the fields in the bytes b
+--   targetOf b    the target that the eight bytes b say
+--   threeOf d     the three targets that the 24 bytes d say
 use mathlib.Core.List.{List, [], _∷_}
 use mathlib.Core.Bool.{true, false, cond}
 use Prim.Native.Nat.{ℕ}

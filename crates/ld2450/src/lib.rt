@@ -1,4 +1,4 @@
-// The LD2450, a module that tells of three targets: its frame, read and written.
+// The LD2450, a module that reports three targets: its frame, read and written.
 mod signed;
 mod targets;
 
@@ -25,7 +25,7 @@ ghost use Rattle.ld2450.specs.Bytes.{allWritable, unrepresentable, targe
 ghost use Rattle.ld2450.specs.RoundTrip.{targetFrames};
 ghost use Rattle.ld2450.specs.Claims.{Examples, WrittenExample};
 
-// How many targets a frame has.
+// The number of targets in a frame.
 pub const TARGETS: usize = 3;
 
 // Bytes of a target.
@@ -37,32 +37,32 @@ pub const HELD_LEN: usize = TARGETS * TARGET_LEN;
 // Bytes of a frame, header to tail inclusive.
 pub const FRAME_LEN: usize = HEADER.len() + HELD_LEN + TAIL.len();
 
-// What begins and ends a frame.
+// The header and the tail of a frame.
 const HEADER: [u8; 4] = [0xAA, 0xFF, 0x03, 0x00];
 
 const TAIL: [u8; 2] = [0x55, 0xCC];
 
-// A frame's targets; or the refusal, beside targets of which every field is 0.
+// A frame's targets; or the refusal, beside targets whose fields are all 0.
 pub struct TargetsResult {
     pub outcome: Outcome,
     pub targets: [Target; TARGETS],
 }
 
-// Targets of which every field is 0.
+// Returns targets whose fields are all 0.
 pub fn no_targets() -> [Target; TARGETS]
     ensures empty { λ r. ⌜ r ≡ noTargets ⌝ }
 {
     [absent(), absent(), absent()]
 }
 
-// The three targets that a frame's bytes between header and tail are.
+// Reads the three targets from a frame's bytes between header and tail.
 pub fn read_held(held: &[u8; HELD_LEN]) -> [Target; TARGETS]
     ensures read { λ r. ⌜ r ≡ threeOf (now (held .entry)) ⌝ }
 {
     [target_of(held, 0), target_of(held, 8), target_of(held, 16)]
 }
 
-// Whether the bytes are a frame.
+// Tests whether the bytes are a frame.
 fn is_frame(bytes: &[u8]) -> bool
     ensures tested { λ r. ⌜ r ≡ isFrame (now (bytes .entry)) ⌝ }
 {
@@ -72,7 +72,7 @@ fn is_frame(bytes: &[u8]) -> bool
     bytes_eq(&bytes[..4], &HEADER) && bytes_eq(&bytes[28..], &TAIL)
 }
 
-// Reads one whole frame, header to tail. Refuses with 1 all bytes but such a frame.
+// Reads one whole frame, header to tail. Refuses with 1 any other bytes.
 pub fn read_targets(bytes: &[u8]) -> TargetsResult
     ensures parsed { λ r. ⌜ r ≡ parsedTargets (now (bytes .entry)) ⌝ }
     ensures causes { λ r. ⌜ ReadCauses (now (bytes .entry)) (returnedTargets r) ⌝ }
@@ -94,9 +94,9 @@ pub fn read_targets(bytes: &[u8]) -> TargetsResult
     }
 }
 
-// Writes the frame of three targets into the front of `out`, and answers the bytes written. Refuses with 6 a target
-// that the reader cannot give, then with 4 a buffer shorter than the frame. Bytes after the frame stay, and a refused
-// call changes none.
+// Writes the frame of three targets into the front of `out`, and returns the number of bytes written. Refuses with 6 a
+// target that the reader cannot give, then with 4 a buffer shorter than the frame. Bytes after the frame stay, and a
+// refused call changes none.
 pub fn write_targets(out: &mut [u8], targets: [Target; TARGETS]) -> WriteResult
     ensures examples { λ _. ⌜ WrittenExample ⌝ }
     ensures told { λ r. ⌜ r ≡ writeResult (unrepresentable targets) (targetsFrame targets)

@@ -1,10 +1,10 @@
-// Numbers of two bytes with a sign of their own: the top bit set is plus, clear is minus.
+// Two-byte numbers with their own sign: the top bit set means plus, clear means minus.
 ghost use mathlib.Core.Path.{_≡_};
 ghost use mathlib.Core.Bool.{true};
 ghost use Rattle.ld2450.specs.Signed.{signedOf, sayable, rawOf};
 ghost use Rattle.ld2450.specs.Bytes.{isZero};
 
-// The number that a two-byte number says.
+// Returns the number that a two-byte number means.
 pub(crate) fn signed(raw: u16) -> i16
     ensures said { λ r. ⌜ r ≡ signedOf raw ⌝ }
 {
@@ -12,21 +12,21 @@ pub(crate) fn signed(raw: u16) -> i16
     if raw >= 0x8000 { low } else { 0 - low }
 }
 
-// Whether a two-byte number says it.
+// Tests whether some two-byte number means `x`.
 pub(crate) fn sayable(x: i16) -> bool
     ensures tested { λ r. ⌜ r ≡ sayable x ⌝ }
 {
     x != -32768
 }
 
-// Whether it is 0.
+// Tests whether `x` is 0.
 pub(crate) fn is_zero(x: i16) -> bool
     ensures tested { λ r. ⌜ r ≡ isZero x ⌝ }
 {
     x == 0
 }
 
-// The two-byte number that is written for it.
+// Returns the two-byte number that is written for `x`.
 pub(crate) fn raw_of(x: i16) -> u16
     requires can { ⌜ sayable x ≡ true ⌝ }
     ensures told { λ r. ⌜ r ≡ rawOf x ⌝ }

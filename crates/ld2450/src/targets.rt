@@ -14,10 +14,10 @@ ghost use lib.ListN.{length, take, drop};
 ghost use Rattle.ld2450.specs.Target.{absent, fieldAt, targetOf};
 ghost use Rattle.ld2450.specs.Bytes.{targetBytes, writable};
 
-// A target, or none: every field is 0 then.
+// A target; if it is absent, every field is 0.
 pub struct Target {
     pub present: bool,
-    // Where it is, in millimetres.
+    // Its position, in millimetres.
     pub x: i16,
     pub y: i16,
     // Its speed, in centimetres a second.
@@ -26,7 +26,7 @@ pub struct Target {
     pub resolution: u16,
 }
 
-// No target.
+// Returns an absent target.
 pub(crate) fn absent() -> Target
     ensures empty { λ r. ⌜ r ≡ absent ⌝ }
 {
@@ -39,7 +39,7 @@ pub(crate) fn absent() -> Target
     }
 }
 
-// The two-byte number at a place.
+// Reads the two-byte number at a place.
 fn field(bytes: &[u8], at: usize) -> u16
     requires inside { ⌜ at + 2 ≤ length (now bytes) ⌝ }
     ensures read { λ r. ⌜ r ≡ fieldAt (now (bytes .entry)) at ⌝ }
@@ -47,7 +47,7 @@ fn field(bytes: &[u8], at: usize) -> u16
     bytes[at] as u16 + 256 * (bytes[at + 1] as u16)
 }
 
-// The target whose eight bytes begin at a place.
+// Reads the target whose eight bytes begin at a place.
 pub(crate) fn target_of(held: &[u8; HELD_LEN], at: usize) -> Target
     requires inside { ⌜ at + 8 ≤ 24 ⌝ }
     ensures read { λ r. ⌜ r ≡ targetOf (take 8 (drop at (now (held .entry)))) ⌝ }
@@ -66,7 +66,7 @@ pub(crate) fn target_of(held: &[u8; HELD_LEN], at: usize) -> Target
     }
 }
 
-// Whether the reader can give it: a present one without -32,768, an absent one with every field 0.
+// Tests whether the reader can give the target: a present one without -32,768, an absent one with every field 0.
 pub(crate) fn writable(t: Target) -> bool
     ensures tested { λ r. ⌜ r ≡ writable t ⌝ }
 {
@@ -77,7 +77,7 @@ pub(crate) fn writable(t: Target) -> bool
     }
 }
 
-// Its eight bytes.
+// Returns the target's eight bytes.
 pub(crate) fn target_bytes(t: Target) -> [u8; TARGET_LEN]
     requires can { ⌜ writable t ≡ true ⌝ }
     ensures little { λ r. ⌜ r ≡ targetBytes t ⌝ }

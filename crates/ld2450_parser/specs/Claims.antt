@@ -1,20 +1,20 @@
--- Demand 3 of document 01's customer, for the parser of this crate: request 6.
---   did, left         what calls did, the first on the parser x, each other on the parser that the one before left; and
---                     the parser that they left
---   Demand3 p x       every list of calls that pass bytes fulfils the demand, from the parser x, in which p is pending
---   FromHere x        nothing is pending in x: it is fresh, or just reset
---   Determined p x    the demand leaves no choice: whatever fulfils it does as the parser x does
---   backToBack ds     frames, one after another, by the 24 target bytes of each
---   allOf dss         the frames of all stretches
---   AllDelivered      the calls on x delivered the targets of each of the frames ds, and lost no byte
---   Receives p x      so they do wherever each stretch, the first with p, which is pending in x, is such frames
---   OutOfRange x      x has more bytes of a frame than a frame in progress can have
---   Stands x p        p is what x stands for: the bytes of the frame in progress, none out of range
---   FromAny x         whatever its fields are, the demand holds of x, with what it stands for pending; what follows
---   Accounted x       from x, without a reset and while `dropped` is not full, no byte is unaccounted for
---   ResetFirst x y    x, out of range, is fed as y is, which is what a reset of x leaves
--- What is fulfilled stands in the crate `engine` (Fulfilled), what is open, whole, delivered and counted in Stream,
--- what a frame is in the crate `ld2450` (Frame), the most of a counter in the crate `wire` (Counter).
+-- Demand 3 for the parser of this crate: request 6.
+--   did x calls      what the calls did, the first on the parser x, each other on the parser that the one before left
+--   left x calls     the parser that they left
+--   Demand3 p x      every list of calls that pass bytes fulfils the demand, from the parser x, in which p is pending
+--   FromHere x       the demand holds from x with nothing pending, as in a parser that is fresh or just reset
+--   Determined p x   the demand leaves no choice: whatever fulfils it, from the same counters, does as x does
+--   backToBack ds    frames, one after another, by the 24 target bytes of each
+--   allOf dss        the frames of all stretches
+--   AllDelivered x calls ds   the calls on x delivered the targets of each frame of ds; no resync, no dropped byte
+--   Receives p x     AllDelivered holds if every stretch is frames back to back; p, pending in x, begins the first
+--   OutOfRange x     x counts more bytes of a frame than a frame in progress can have
+--   Stands x p       p is the pending bytes of x, none if it is out of range
+--   FromAny x        whatever the fields of x are, the demand holds from x with its pending bytes; and what follows
+--   Accounted x      from x on, without a reset and while `dropped` is not full, every byte taken is accounted for
+--   ResetFirst x y   if x is out of range, it is fed as y is; the resets promise it of y, which they leave
+-- Defined elsewhere: Fulfilled in the crate `engine`; open, whole, delivered and counted in Stream; a frame in the
+-- crate `ld2450` (Frame); where counters stop in `wire` (Counter).
 use mathlib.Core.Path.{_≡_}
 use mathlib.Core.List.{List, [], _∷_, _++_, map}
 use mathlib.Core.Bool.{true}
@@ -69,7 +69,7 @@ pub record AllDelivered (x : Parser) (calls : List Call) (ds : List (List ℕ)) 
   pub resyncs : left x calls .stats .resyncs ≡ x .stats .resyncs
   pub dropped : left x calls .stats .dropped ≡ x .stats .dropped
 
--- For who sends: it follows from the demand, and says no word of divisions. Of each stretch the frames are one list.
+-- For a sender: it follows from the demand, and does not mention divisions. dss has a list of frames for each stretch.
 abbrev pub Receives : List ℕ → Parser → Type 0
 Receives p x = (calls : List Call) (dss : List (List (List ℕ)))
     → Every ByteCall calls → Every (Every (λ (d : List ℕ). length d ≡ 24)) dss
@@ -82,7 +82,7 @@ OutOfRange x = 29 < x .at
 pub record Stands (x : Parser) (p : List ℕ) : Type 0 where
   -- out of range it "is handled as if reset came first": nothing is pending
   pub out : OutOfRange x → p ≡ []
-  -- in range it is not reset
+  -- in range they are the bytes of the frame in progress
   pub inside : ¬ OutOfRange x → p ≡ take (x .at) (framed (x .buf))
 
 pub record FromAny (x : Parser) : Type 0 where
@@ -95,7 +95,8 @@ pub record FromAny (x : Parser) : Type 0 where
   -- "an empty slice takes none", and delivers nothing
   pub empty : (calls : List Call) → Every ByteCall calls → (before after : List (Did MaybeTargets)) (k : ℕ)
       (a : MaybeTargets) → did x calls ≡ before ++ (sliced [] k a ∷ after) → (k ≡ 0) × (a ≡ nothing)
-  -- a parser y that stands for the same as what calls left, and has its counters, goes on as that
+  -- a parser y with the same pending bytes and the same counters as the parser that the calls left goes on as that
+  -- parser would
   pub resumed : (calls more : List Call) → Every ByteCall calls → Every ByteCall more
       → (y : Parser) → Demand3 (pendingBy y) y → pendingBy y ≡ pendingBy (left x calls)
       → y .stats ≡ left x calls .stats → did x (calls ++ more) ≡ did x calls ++ did y more

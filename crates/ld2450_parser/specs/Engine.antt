@@ -1,6 +1,6 @@
--- The parser as an engine of the theory of the stream.
+-- The parser as an engine (crate `engine`).
 --   counterIn k st   the counter k of the counters st
---   pendingBy p      the bytes that the parser stands for: none where its place is out of range
+--   pendingBy p      the pending bytes of the parser p, none if its place is out of range
 --   engine           the calls, the counters, and the pending string
 use mathlib.Core.List.{List}
 use Prim.Native.Nat.{ℕ}
@@ -19,7 +19,7 @@ counterIn frames st = st .frames
 counterIn resyncs st = st .resyncs
 counterIn dropped st = st .dropped
 
--- As many bytes of a frame as are there, the target bytes in the buffer.
+-- The first bytes of a frame, up to the place; its target bytes are in the buffer.
 abbrev pub pendingBy : Parser → List ℕ
 pendingBy p = take (orReset (p .at)) (framed (p .buf))
 

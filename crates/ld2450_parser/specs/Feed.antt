@@ -1,19 +1,26 @@
--- What the calls do to a parser: a byte fed, a slice fed, a reset. A place is how many bytes of a frame are there.
---   noStats, put, fresh   counters at 0; a parser of its parts; one that has taken nothing, every byte and number 0
---   orReset n             the place n, or, where it is out of range, 0: "as if reset came first"
---   among n x y           x at a place of the targets, y at one of the header or the tail
---   dueAt n               the byte that is due at a place of the header or the tail
---   continued, ended      what a byte leaves that goes on with a frame, or ends one
---   abandoned st n        the counters where a frame in progress breaks, of which n bytes are there
---   oneDropped, started   the counters after a stray byte; what a byte leaves that is tried as the first of a frame
---   whereDue, stepOf      what a byte leaves, of the place and the counters: where one is due, and at any place
---   stored n buf b        the buffer that the byte b leaves
---   answerIf e d          the answer: the targets of the bytes d where a frame ended, else "no frame"
---   stepped, runOf        a byte, and a slice, fed to a parser in range; thenRun, a byte and then what follows it
---   still p               a parser, its place reset where that is due
---   feedOf, feedSliceOf, resetOf, unfinishedOf   what the calls do to any parser
---   movedOf, sliceMovedOf what a byte or a slice fed leaves beside the buffer, with the answer
--- What the document leaves free: a byte of the buffer changes only where a target's byte is stored.
+-- What the calls do to a parser: a byte fed, a slice fed, a reset. A place is the number of pending bytes.
+--   noStats            every counter 0
+--   put buf n st       the parser with the buffer buf, the place n and the counters st
+--   fresh              a parser that has taken nothing: every byte and number 0
+--   orReset n          the place n, or 0 if it is out of range: "as if reset came first"
+--   among n x y        x at a place of the targets, y at one of the header or the tail
+--   dueAt n            the byte that is due at a place of the header or the tail
+--   continued n st     the step that leaves the place n and the counters st, and ends no frame
+--   ended st           the step that ends a frame
+--   abandoned st n     the counters after a broken start of n bytes
+--   oneDropped st      the counters after a stray byte
+--   started st b       the step of the byte b, tried as the first of a frame
+--   whereDue n st b    the step of b in the header or the tail; stepOf n st b, at any place
+--   stored n buf b     the buffer after the byte b
+--   answerIf e d       the targets of the bytes d if a frame ended, else "no frame"
+--   stepped p b        a parser in range after the byte b, and the answer; runOf p bs, after the slice bs
+--   thenRun one more   `one`, the outcome of a byte, if it ended a frame; else `more` after it
+--   still p            the parser p, its place reset if it is out of range
+--   feedOf p b         any parser after the byte b, and the answer; feedSliceOf p bs, after the slice bs
+--   resetOf p          any parser after a reset
+--   unfinishedOf p     the length of the frame in progress
+--   movedOf r, sliceMovedOf r   the outcome r of a byte or a slice, without the buffer
+-- The papers leave this free: a byte of the buffer changes only where a target's byte is stored.
 use mathlib.Core.List.{List, [], _∷_}
 use mathlib.Core.Bool.{Bool, true, false, cond}
 use Prim.Native.Nat.{ℕ, suc, _+_, _-_}
@@ -60,7 +67,7 @@ ended st = record {
   ended = true;
 }
 
--- Where no byte is there, no frame breaks.
+-- If no byte is pending, no frame breaks.
 unfoldable pub abandoned : Stats → ℕ → Stats
 abandoned st n = cond (eqb n 0) st (record {
   frames = st .frames;
@@ -93,7 +100,7 @@ stepped p b =
     let d = stored (p .at) (p .buf) b in
     record { parser = put d (s .at) (s .stats); answer = answerIf (s .ended) d }
 
--- "bytes up to and including the end of the first whole frame": the bytes after one are fed where it ended no frame
+-- "bytes up to and including the end of the first whole frame": the next bytes are fed only if the byte ended no frame
 abbrev pub thenRun : Fed → FedSlice → FedSlice
 thenRun one more = cond (one .answer .there)
     (record { parser = one .parser; answer = record { count = 1; frame = one .answer } })

@@ -8,5 +8,5 @@ pub mod Feed
 pub mod Engine
 -- Demand 3.
 pub mod Claims
--- What the pieces of the stream are, and each of them shown.
+-- What the pieces of the stream are, and an example of each.
 pub mod Pieces

@@ -1,10 +1,10 @@
 -- What the pieces of the LD2450's stream are. src/lib.rt pins each of these claims in a contract.
---   DeliversWhole  what a whole frame delivers is what the frame reader gives for it
---   StrayBytes     a stray byte is any but AA
---   BrokenFrames   a frame that breaks is a broken start, up to the byte that breaks it; only that byte is tried again
---   oneOfEach      a stream of each kind of piece: a stray byte, a broken start, the frame `seen`, an unfinished end
---   twoSlices      that stream in a slice, and what is left of it in another
---   Shown x        the parser x divides that stream so, delivers the frame and counts the pieces
+--   DeliversWhole   what a whole frame delivers is what the frame reader gives for it
+--   StrayBytes      a stray byte is any but AA
+--   BrokenFrames    a frame that breaks is a broken start, up to the byte that breaks it; only that byte is tried again
+--   oneOfEach       every kind of piece in one stream: a stray byte, two broken starts, `seen`, an unfinished end
+--   twoSlices       that stream as a slice, and the rest that is not taken as another
+--   Shown x         that stream divides so, and the parser x delivers the frame and counts the pieces
 use mathlib.Core.Path.{_≡_}
 use mathlib.Core.Logic.{_≢_, _↔_, _⊎_}
 use mathlib.Core.List.{List, [], _∷_, _++_}
@@ -28,9 +28,9 @@ DeliversWhole = (f : List ℕ) → Whole f
 unfoldable pub StrayBytes : Type 0
 StrayBytes = (b : ℕ) → (¬ Open (b ∷ [])) ↔ (b ≢ 0xAA)
 
--- 01: "After a broken tail the whole span is searched again. Only the offending byte is." Of a frame n bytes are there,
--- the next is one of the header or the tail, and c is another: whatever the targets hold, what was there is a broken
--- start, and c is the first byte of what is divided next.
+-- 01: "After a broken tail the whole span is searched again. Only the offending byte is." n bytes of a frame are
+-- pending, a byte of the header or the tail is due, and another, c, comes: whatever the targets hold, the n bytes are a
+-- broken start, and c begins the next piece.
 unfoldable pub BrokenFrames : Type 0
 BrokenFrames = (d : List ℕ) (n c : ℕ) (t : List ℕ) (ps : List Piece) → length d ≡ 24 → 0 < n → n < 30
     → (n < 4) ⊎ (28 ≤ n) → c ≢ getD (framed d) n 0 → Division Open Whole (c ∷ t) ps

@@ -1,11 +1,12 @@
--- The LD2450's stream, as demand 3 (crate `engine`) speaks of it: request 6, "a stream parser that meets
--- demand 3 over a division of the same kind, with three counters".
+-- The LD2450's stream, as demand 3 (crate `engine`) speaks of it: request 6, "a stream parser that meets demand 3 over
+-- a division of the same kind, with three counters".
 --   Open s        a frame begins with the string s
 --   Whole s       s is a whole frame (crate `ld2450`, IsFrame)
 --   nothing       the answer "no frame": every field 0
 --   delivered f   the answer that delivers the whole frame f: its targets, as the frame reader gives them
---   decodes f     a whole frame decodes: each does
---   Counter       the three counters, and what each piece adds to them
+--   decodes f     whether the whole frame f decodes: each does
+--   Counter       the three counters
+--   adds c p      what the piece p adds to the counter c
 --   ld2450        the stream of the module
 use mathlib.Core.Path.{_≡_}
 use mathlib.Core.List.{List, _++_}
@@ -19,7 +20,7 @@ use Rattle.ld2450.specs.Target.{threeOf}
 use Rattle.ld2450.specs.Frame.{framed, IsFrame, heldIn, noTargets}
 use Rattle.ld2450_parser.specs.declared.MaybeTargets.{MaybeTargets}
 
--- "AA FF 03 00, three targets of eight bytes, 55 CC: 30 bytes": what such a frame begins with
+-- "AA FF 03 00, three targets of eight bytes, 55 CC: 30 bytes": each beginning of such a frame
 pub record Open (s : List ℕ) : Type 0 where
   pub held : List ℕ
   pub rest : List ℕ

@@ -1,4 +1,4 @@
-// Bytes fed into a buffer that is lent: a place out of range is reset first, and a frame that ended is read.
+// Bytes fed into a lent buffer: with `at` out of range the parser is reset first, and a frame that ended is read.
 use super::MaybeTargets;
 use super::Stats;
 use super::Taken;
@@ -11,21 +11,21 @@ use ld2450::read_held;
 ghost use mathlib.Core.Path.{_≡_};
 ghost use Rattle.ld2450_parser.specs.Feed.{put, answerIf, feedOf, feedSliceOf, movedOf, sliceMovedOf};
 
-// What a byte fed leaves, beside the buffer, and the targets of the frame that it completed, if any.
+// The new `at` and counters after a byte was fed, and the targets of the frame that it completed, if any.
 pub(crate) struct Moved {
     pub at: usize,
     pub stats: Stats,
     pub answer: MaybeTargets,
 }
 
-// What a slice fed leaves, beside the buffer, and its answer.
+// The new `at` and counters after a slice was fed, and its answer.
 pub(crate) struct MovedSlice {
     pub at: usize,
     pub stats: Stats,
     pub answer: Taken,
 }
 
-// The targets of a frame that ended; else none.
+// Returns the targets of a frame that ended; else none.
 fn answer(ended: bool, held: &[u8; HELD_LEN]) -> MaybeTargets
     ensures answered { λ r. ⌜ r ≡ answerIf ended (now (held .entry)) ⌝ }
 {
@@ -42,7 +42,7 @@ fn answer(ended: bool, held: &[u8; HELD_LEN]) -> MaybeTargets
     }
 }
 
-// One byte. The buffer and what is returned are those of the parser that they make up.
+// Feeds one byte to the parser that the lent buffer, `at` and the counters make up.
 pub(crate) fn feed_at(buf: &mut [u8; HELD_LEN], at: usize, stats: Stats, byte: u8) -> Moved
     ensures moved { λ r. ⌜ (r ≡ movedOf (feedOf (put (now (buf .entry)) at stats) byte))
         × (now (buf .exit) ≡ feedOf (put (now (buf .entry)) at stats) byte .parser .buf) ⌝ }
@@ -58,7 +58,7 @@ pub(crate) fn feed_at(buf: &mut [u8; HELD_LEN], at: usize, stats: Stats, byte: u
     }
 }
 
-// Bytes up to and including the end of the first whole frame, else all of them.
+// Feeds bytes up to and including the end of the first whole frame, else all of them.
 pub(crate) fn feed_slice_at(
     buf: &mut [u8; HELD_LEN],
     at: usize,

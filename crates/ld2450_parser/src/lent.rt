@@ -1,4 +1,4 @@
-// The parser where it stands: the feeds and the reset of a parser that is lent.
+// The feeds and the reset of a parser that is lent: it changes in place.
 use super::MaybeTargets;
 use super::Parser;
 use super::Taken;
@@ -11,7 +11,7 @@ ghost use Rattle.ld2450_parser.specs.Feed.{feedOf, feedSliceOf, resetOf}
 ghost use Rattle.ld2450_parser.specs.Claims.{FromHere, FromAny, Determined, ResetFirst};
 
 impl Parser {
-    // `fed` on a parser that is lent: it stays where it is, and nothing of its buffer is copied.
+    // Feeds as `fed` does, on a parser that is lent: it stays in place, and nothing of its buffer is copied.
     pub fn feed(&mut self, byte: u8) -> MaybeTargets
         ensures fed { λ r. ⌜ (r ≡ feedOf (now (self .entry)) byte .answer)
             × (now (self .exit) ≡ feedOf (now (self .entry)) byte .parser) ⌝ }
@@ -25,7 +25,7 @@ impl Parser {
         moved.answer
     }
 
-    // `fed_slice` on a parser that is lent.
+    // Feeds as `fed_slice` does, on a parser that is lent.
     pub fn feed_slice(&mut self, bytes: &[u8]) -> Taken
         ensures fed { λ r. ⌜ (r ≡ feedSliceOf (now (self .entry)) (now (bytes .entry)) .answer)
             × (now (self .exit) ≡ feedSliceOf (now (self .entry)) (now (bytes .entry)) .parser) ⌝ }
@@ -39,7 +39,7 @@ impl Parser {
         run.answer
     }
 
-    // `cleared` on a parser that is lent.
+    // Resets as `cleared` does, on a parser that is lent.
     pub fn reset(&mut self)
         ensures reset { λ _. ⌜ now (self .exit) ≡ resetOf (now (self .entry)) ⌝ }
         ensures fulfilled { λ _. ⌜ FromHere (now (self .exit)) ⌝ }

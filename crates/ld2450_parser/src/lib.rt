@@ -1,5 +1,5 @@
-// The streaming parser of the LD2450: a stretch of bytes in, targets and counters out. What a user names of its frames
-// is passed on, so that this is the module's front door.
+// The streaming parser of the LD2450: a stretch of bytes in, targets and counters out. The crate also passes on what a
+// user names of its frames, and so is the module's front door.
 pub use ld2450::Error;
 pub use ld2450::FRAME_LEN;
 pub use ld2450::HELD_LEN;
@@ -25,15 +25,15 @@ ghost use Rattle.ld2450_parser.specs.Feed.{fresh, unfinishedOf};
 ghost use Rattle.ld2450_parser.specs.Claims.{FromHere, Accounted, Determined, Receives};
 ghost use Rattle.ld2450_parser.specs.Pieces.{DeliversWhole, StrayBytes, BrokenFrames, Shown};
 
-// What was counted: whole frames; frames that broke off; stray bytes and the bytes of frames that broke off.
+// The counters: whole frames; broken starts; stray bytes and the bytes of broken starts.
 pub struct Stats {
     pub frames: u64,
     pub resyncs: u64,
     pub dropped: u64,
 }
 
-// A streaming parser. `at` is how many bytes of a frame are there, and the buffer has the target bytes among them; what
-// it has besides is left of earlier frames. Above 29 `at` is out of range, and handled as if reset came first.
+// A streaming parser. `at` is how many bytes of a frame are pending, and the buffer has the target bytes among them;
+// its other bytes have no meaning. `at` above 29 is out of range, and handled as if reset came first.
 pub struct Parser {
     pub buf: [u8; HELD_LEN],
     pub at: usize,
@@ -46,7 +46,7 @@ pub struct MaybeTargets {
     pub targets: [Target; TARGETS],
 }
 
-// How many bytes a slice feed took, and the targets of the frame that they completed, if any.
+// The number of bytes that a slice feed took, and the targets of the frame that they completed, if any.
 pub struct Taken {
     pub count: usize,
     pub frame: MaybeTargets,
@@ -64,8 +64,8 @@ pub struct FedSlice {
 }
 
 impl Parser {
-    // A parser that looks for a header, with an empty buffer and every counter 0. From it every list of calls fulfils
-    // demand 3 (specs/Claims.antt).
+    // Makes a parser that looks for a header, with a buffer of zeros and every counter 0. From it every list of calls
+    // fulfils demand 3 (specs/Claims.antt).
     pub fn new() -> Self
         ensures made { λ r. ⌜ r ≡ fresh ⌝ }
         ensures fulfilled { λ r. ⌜ FromHere r ⌝ }
@@ -85,14 +85,14 @@ impl Parser {
         }
     }
 
-    // The counters so far.
+    // Returns the counters so far.
     pub fn stats(self) -> Stats
         ensures told { λ r. ⌜ r ≡ self .stats ⌝ }
     {
         self.stats
     }
 
-    // The length of the frame in progress.
+    // Returns the length of the frame in progress.
     pub fn unfinished(self) -> usize
         ensures told { λ r. ⌜ r ≡ unfinishedOf self ⌝ }
     {
@@ -100,8 +100,7 @@ impl Parser {
     }
 }
 
-// What the pieces of the stream are. The function is empty and never called: its contract pins claims of
-// specs/Pieces.antt.
+// Pins what the pieces of the stream are, by claims of specs/Pieces.antt. The function is empty and never called.
 fn stream_claims()
     ensures whole { λ _. ⌜ DeliversWhole ⌝ }
     ensures stray { λ _. ⌜ StrayBytes ⌝ }

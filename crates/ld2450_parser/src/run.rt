@@ -1,4 +1,4 @@
-// The run of a slice: its bytes one by one, up to and with the first that ends a frame.
+// The run of a slice: its bytes one by one, up to and including the first that ends a frame.
 use super::Stats;
 use crate::steps::step;
 use ld2450::HELD_LEN;
@@ -6,7 +6,7 @@ ghost use mathlib.Core.Path.{_≡_};
 ghost use Prim.Native.Nat.{_≤_};
 ghost use Rattle.ld2450_parser.specs.Feed.{put, answerIf, runOf};
 
-// What a run leaves beside the buffer, whether it ended a frame, and how many bytes it took.
+// The new `at` and counters after a run, whether it ended a frame, and how many bytes it took.
 pub(crate) struct Ran {
     pub at: usize,
     pub stats: Stats,

@@ -1,4 +1,4 @@
-// What one byte does: it goes on with the frame in progress, or breaks it and is tried as a new start.
+// The step of one byte: it goes on with the frame in progress, or breaks it and is tried as a new start.
 use super::Stats;
 use ld2450::HELD_LEN;
 use wire::bump;
@@ -7,28 +7,28 @@ ghost use Prim.Native.Nat.{_≤_};
 ghost use Rattle.ld2450_parser.specs.Feed.{orReset, dueAt, continued, ended, abandoned, started};
 ghost use Rattle.ld2450_parser.specs.Feed.{whereDue, stored, stepOf};
 
-// How many bytes of a frame are there after a byte, the counters, and whether it ended a frame.
+// The new `at` and counters after a byte, and whether it ended a frame.
 pub(crate) struct Stepped {
     pub at: usize,
     pub stats: Stats,
     pub ended: bool,
 }
 
-// The place of a parser that looks for a header: no byte of a frame is there.
+// Returns the `at` of a parser that looks for a header: no byte is pending.
 pub(crate) fn hunting() -> usize
     ensures hunting { λ r. ⌜ r ≡ 0 ⌝ }
 {
     0
 }
 
-// A place out of range is handled as if reset came first.
+// Returns `at`; if it is out of range, 0, as if reset came first.
 pub(crate) fn or_reset(at: usize) -> usize
     ensures or_reset { λ r. ⌜ r ≡ orReset at ⌝ }
 {
     if at <= 29 { at } else { 0 }
 }
 
-// The byte that is due at a place outside the targets.
+// Returns the byte that is due at a place outside the targets.
 fn due(at: usize) -> u8
     requires { ⌜ at ≤ 29 ⌝ }
     ensures due { λ r. ⌜ r ≡ dueAt at ⌝ }
@@ -43,7 +43,7 @@ fn due(at: usize) -> u8
     }
 }
 
-// The frame in progress goes on.
+// Returns a step that ends no frame.
 fn continued(at: usize, stats: Stats) -> Stepped
     ensures stepped { λ r. ⌜ r ≡ continued at stats ⌝ }
 {
@@ -54,7 +54,7 @@ fn continued(at: usize, stats: Stats) -> Stepped
     }
 }
 
-// Gives up a frame in progress of which `at` bytes were there, if there were any.
+// Counts a frame in progress that is given up after `at` bytes, if there was one.
 fn abandon(stats: Stats, at: usize) -> Stats
     ensures counted { λ r. ⌜ r ≡ abandoned stats at ⌝ }
 {
@@ -98,7 +98,7 @@ fn end(stats: Stats) -> Stepped
     }
 }
 
-// A byte where one of the header or the tail is due. The last of the tail ends the frame.
+// Takes a byte where one of the header or the tail is due. The last of the tail ends the frame.
 fn match_due(at: usize, stats: Stats, byte: u8) -> Stepped
     requires { ⌜ at ≤ 29 ⌝ }
     ensures stepped { λ r. ⌜ r ≡ whereDue at stats byte ⌝ }
@@ -112,7 +112,7 @@ fn match_due(at: usize, stats: Stats, byte: u8) -> Stepped
     end(stats)
 }
 
-// One byte, into a buffer that is lent. A byte of a target is stored, whatever it is.
+// Takes one byte, with the buffer lent. A byte of a target is stored, whatever it is.
 pub(crate) fn step(buf: &mut [u8; HELD_LEN], at: usize, stats: Stats, byte: u8) -> Stepped
     requires { ⌜ at ≤ 29 ⌝ }
     ensures stepped { λ r. ⌜ (r ≡ stepOf at stats byte) × (now (buf .exit) ≡ stored at (now (buf .entry)) byte) ⌝ }

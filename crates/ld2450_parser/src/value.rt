@@ -11,8 +11,8 @@ ghost use Rattle.ld2450_parser.specs.Feed.{feedOf, feedSliceOf, resetOf}
 ghost use Rattle.ld2450_parser.specs.Claims.{FromHere, FromAny, Determined, ResetFirst};
 
 impl Parser {
-    // Feeds one received byte; the answer is the targets of the frame that this byte completed, or none. A parser with
-    // more than 29 bytes of a frame there is handled as if reset came first.
+    // Feeds one received byte. The answer is the targets of the frame that this byte completed, or none. A parser with
+    // `at` above 29 is handled as if reset came first.
     pub fn fed(self, byte: u8) -> Fed
         ensures fed { λ r. ⌜ r ≡ feedOf self byte ⌝ }
         ensures any { λ _. ⌜ FromAny self ⌝ }
@@ -32,8 +32,8 @@ impl Parser {
         }
     }
 
-    // Feeds bytes up to and including the end of the first whole frame, else all of them; the answer tells how many,
-    // and the frame's targets. Call again with the rest.
+    // Feeds bytes up to and including the end of the first whole frame, else all of them. The answer is how many, and
+    // the frame's targets. Call again with the rest.
     pub fn fed_slice(self, bytes: &[u8]) -> FedSlice
         ensures fed { λ r. ⌜ r ≡ feedSliceOf self (now (bytes .entry)) ⌝ }
         ensures any { λ _. ⌜ FromAny self ⌝ }
@@ -53,8 +53,8 @@ impl Parser {
         }
     }
 
-    // Forgets a frame in progress and looks for a header again. The counters are kept. From what it returns, whatever
-    // parser it was given, every list of calls fulfils demand 3; and one out of range is fed as what this returns.
+    // Forgets a frame in progress and looks for a header again. The counters are kept. Whatever it is given, every list
+    // of calls on what it returns fulfils demand 3. Feeding a parser out of range is feeding what this returns.
     pub fn cleared(self) -> Self
         ensures reset { λ r. ⌜ r ≡ resetOf self ⌝ }
         ensures fulfilled { λ r. ⌜ FromHere r ⌝ }

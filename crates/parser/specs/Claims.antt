@@ -1,19 +1,18 @@
--- Demand 3 of document 01's customer, for the parser of this crate.
---   did, left         what calls did, the first on the parser x, each other on the parser that the one before left; and
---                     the parser that they left
---   Demand3 p x       every list of calls that pass bytes fulfils the demand, from the parser x, in which p is pending
---   FromHere x        nothing is pending in x: it is fresh, or just reset
---   Determined p x    the demand leaves no choice: whatever fulfils it does as the parser x does
---   Stands x p        p is what x stands for: the bytes of the frame in progress, none where a field is out of range
---   FromAny x         whatever its fields are, the demand holds of x, with what it stands for pending; and what follows
---   cutOff            a parser after a report's header and the length 54; shortFrame, a frame of 53 bytes
---   TooSoon x         bytes fed to x leave cutOff, and there the frame after shortFrame is lost, and after one of 54
---                     bytes is not
---   Accounted x       from x, without a reset and while `dropped` is not full, no byte is unaccounted for
---   ResetFirst x y    x, with a field out of range, is fed as y is, which is what a reset of x leaves
--- What is fulfilled stands in the crate `engine` (Fulfilled), what is open, whole, decodes and is delivered in the
--- crate `stream` (Open, Deliver), what is out of range in the crate `scan` (Stands). The largest length is fixed in the
--- crate `stream` (Length), the most of a counter in the crate `wire` (Counter).
+-- Demand 3 for the parser of this crate.
+--   did x calls      what the calls did, the first on the parser x, each other on the parser that the one before left
+--   left x calls     the parser that they left
+--   Demand3 p x      every list of calls that pass bytes fulfils the demand, from the parser x, in which p is pending
+--   FromHere x       the demand holds from x with nothing pending, as in a parser that is fresh or just reset
+--   Determined p x   the demand leaves no choice: whatever fulfils it, from the same counters, does as x does
+--   Stands x p       p is the pending bytes of x, none if a field is out of range
+--   FromAny x        whatever the fields of x are, the demand holds from x with its pending bytes; and what follows
+--   cutOff           a parser after a report's header and the length 54; shortFrame, a frame of 53 bytes
+--   TooSoon x        some bytes fed to x leave cutOff; there the frame after shortFrame is lost, but a frame after one
+--                    of 54 bytes is not
+--   Accounted x      from x on, without a reset and while `dropped` is not full, every byte taken is accounted for
+--   ResetFirst x y   if a field of x is out of range, x is fed as y is; the resets promise it of y, which they leave
+-- Defined elsewhere: Fulfilled in the crate `engine`; open, whole, decodes and delivered in `stream` (Open, Deliver);
+-- out of range in `scan` (Stands); the largest length in `stream` (Length); where counters stop in `wire` (Counter).
 use mathlib.Core.Path.{_≡_}
 use mathlib.Core.List.{List, [], _∷_, _++_}
 use Prim.Native.Nat.{ℕ, _+_, _<_, min}
@@ -60,7 +59,7 @@ Determined p x = (E : Engine Parser Answer Counter) (s : Parser) (calls : List C
 pub record Stands (x : Parser) (p : List ℕ) : Type 0 where
   -- out of range it "is handled as if reset came first": nothing is pending
   pub out : OutOfRange linkLimit (x .scan) → p ≡ []
-  -- in range it is not reset
+  -- in range they are the bytes of the frame in progress
   pub inside : ¬ OutOfRange linkLimit (x .scan) → p ≡ pendingOf (x .scan) (x .buf)
 
 pub record FromAny (x : Parser) : Type 0 where
@@ -73,7 +72,8 @@ pub record FromAny (x : Parser) : Type 0 where
   -- "an empty slice takes none", and delivers nothing
   pub empty : (calls : List Call) → Every ByteCall calls → (before after : List (Did Answer)) (k : ℕ) (a : Answer)
       → did x calls ≡ before ++ (sliced [] k a ∷ after) → (k ≡ 0) × (a ≡ nothing)
-  -- a parser y that stands for the same as what calls left, and has its counters, goes on as that
+  -- a parser y with the same pending bytes and the same counters as the parser that the calls left goes on as that
+  -- parser would
   pub resumed : (calls more : List Call) → Every ByteCall calls → Every ByteCall more
       → (y : Parser) → Demand3 (pendingBy linkLimit y) y → pendingBy linkLimit y ≡ pendingBy linkLimit (left x calls)
       → y .stats ≡ left x calls .stats → did x (calls ++ more) ≡ did x calls ++ did y more
@@ -81,10 +81,10 @@ pub record FromAny (x : Parser) : Type 0 where
   pub recovers : Recovers linkLimit (engine linkLimit) (pendingBy linkLimit x) x
   -- "found whole": in the division of the whole stretch too, which may have begun long before that moment
   pub found : FoundInStretch linkLimit (engine linkLimit) (pendingBy linkLimit x) x
-  -- so all that are sent 54 or more bytes later are delivered, those that decode
+  -- so of the frames sent 54 or more bytes later those that decode are delivered
   pub regains : Regains linkLimit (engine linkLimit) x
 
--- Its other part: "Show too that 53 is not enough." A parser and a frame, as values.
+-- Request 5's other part: "Show too that 53 is not enough." A parser and a frame, as values.
 abbrev pub cutOff : Parser
 cutOff = put (replicate 64 0) (at Data Report 0 54 0) noStats
 
@@ -92,20 +92,20 @@ abbrev pub shortFrame : List ℕ
 shortFrame = framed Report (replicate 43 0)
 
 pub record TooSoon (x : Parser) : Type 0 where
-  -- the parser is reached by bytes
+  -- these bytes lead to cutOff
   pub reached : left x (feeds (0xF4 ∷ 0xF3 ∷ 0xF2 ∷ 0xF1 ∷ 0x36 ∷ 0x00 ∷ [])) ≡ cutOff
   -- the next frame begins 53 bytes later, and is lost
   pub at-53 : length shortFrame ≡ 53
   pub lost : Lost linkLimit (pendingBy linkLimit cutOff) (shortFrame ∷ [])
-  -- whichever it is, and whatever calls take the two and more, it is not found
+  -- whichever clean frame f is next, and whatever calls take shortFrame, f and more, f is not found
   pub unfound : (calls : List Call) → Every ByteCall calls → Every Goes calls → (f : List ℕ) → Clean linkLimit f
       → (v : List ℕ) → takenBy (did cutOff calls) ≡ shortFrame ++ (f ++ v) → (ps : List Piece)
       → Division (Open linkLimit) (Whole linkLimit) (pendingBy linkLimit cutOff ++ takenBy (did cutOff calls)) ps
       → ¬ EndsAt ps (length (pendingBy linkLimit cutOff ++ (shortFrame ++ f))) f
-  -- and where calls take just the two, nothing is delivered
+  -- and if calls take shortFrame and f alone, nothing is delivered
   pub undelivered : (calls : List Call) → Every ByteCall calls → Every Goes calls → (f : List ℕ) → Clean linkLimit f
       → takenBy (did cutOff calls) ≡ shortFrame ++ f → deliveries (ld2410 linkLimit .delivers) (did cutOff calls) ≡ []
-  -- one byte more is: a clean frame after one of 54 bytes is found, and delivered if it decodes
+  -- one byte more is enough: a clean frame after one of 54 bytes is found, and delivered if it decodes
   pub enough : (calls : List Call) → Every ByteCall calls → Every Goes calls → (g f : List ℕ)
       → Clean linkLimit g → length g ≡ 54 → Clean linkLimit f → takenBy (did cutOff calls) ≡ g ++ f → (ps : List Piece)
       → Division (Open linkLimit) (Whole linkLimit) (pendingBy linkLimit cutOff ++ takenBy (did cutOff calls)) ps

@@ -1,8 +1,8 @@
--- The parser as an engine of the theory of the stream, over the largest length `limit`.
---   withPayload x p   an answer, with the bytes that stand in the parser left where it says that its payload is
---   counterIn k st    the counter k of the counters st
---   pendingBy limit p the bytes that the parser stands for: none where a field is out of range
---   engine limit      the calls, the counters, and the pending string
+-- The parser as an engine (crate `engine`), over the largest length `limit`.
+--   withPayload x p     the frame x, with the bytes of its payload in the buffer of the parser p
+--   counterIn k st      the counter k of the counters st
+--   pendingBy limit p   the pending bytes of the parser p, none if a field is out of range
+--   engine limit        the calls, the counters, and the pending string
 use mathlib.Core.List.{List}
 use Prim.Native.Nat.{ℕ}
 use Rattle.wire.specs.Counter.{counterMax}

@@ -1,9 +1,12 @@
 -- What the calls do to a parser: a byte fed, a slice fed, a reset.
---   fresh              a parser that has taken nothing: every byte of the buffer and every number 0
---   feedOf, feedSliceOf, resetOf   the same of a whole parser
---   unfinishedOf       the length of the frame in progress
--- A scan out of range is handled "as if reset came first". What document 01 leaves free: fields without use in a state
--- are 0, and buffer bytes that belong to no frame stay as they were.
+--   noStats                every counter 0
+--   fresh                  a parser that has taken nothing: every byte of the buffer and every number 0
+--   put buf c st           the parser with the buffer buf, the scan c and the counters st
+--   feedOf limit p b       the parser p after the byte b, and the answer; feedSliceOf limit p bs, after the slice bs
+--   resetOf p              the parser p after a reset
+--   unfinishedOf limit p   the length of the frame in progress
+-- A scan out of range is handled "as if reset came first". Document 01 leaves two things free: here a byte leaves 0 in
+-- the fields without use in a state, and changes a byte of the buffer only where a data byte is stored.
 use mathlib.Core.List.{List}
 use Prim.Native.Nat.{ℕ}
 use lib.ListN.{replicate}

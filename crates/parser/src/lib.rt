@@ -1,7 +1,7 @@
 // The streaming parser of the LD2410's link: a stretch of bytes in, frames and counters out.
 //
-// The Rust's flat private fields stand in three parts: the buffer, the scan (where in a frame the parser is) and the
-// counters, so that a byte moves a few numbers and the buffer stays where it is.
+// The Rust's flat private fields are here in three parts: the buffer, the scan (where in a frame the parser is) and the
+// counters. So a byte moves a few numbers, and the buffer stays in place.
 use feed::Taken;
 use frame::Frame;
 use scan::Scan;
@@ -19,7 +19,7 @@ ghost use Rattle.stream.specs.Length.{linkLimit};
 ghost use Rattle.parser.specs.Feed.{fresh, unfinishedOf};
 ghost use Rattle.parser.specs.Claims.{FromHere, Accounted, Determined, TooSoon};
 
-// A streaming parser. The buffer holds the data bytes of the frame in progress, or of the last whole frame.
+// A streaming parser. The buffer begins with the data bytes of the frame in progress, or of the frame that just ended.
 pub struct Parser {
     pub buf: [u8; MAX_FRAME],
     pub scan: Scan,
@@ -38,8 +38,8 @@ pub struct FedSlice {
 }
 
 impl Parser {
-    // A parser that looks for a header, with an empty buffer and every counter 0. From it every list of calls fulfils
-    // demand 3 (specs/Claims.antt).
+    // Makes a parser that looks for a header, with a buffer of zeros and every counter 0. From it every list of calls
+    // fulfils demand 3 (specs/Claims.antt).
     pub fn new() -> Self
         ensures made { λ r. ⌜ r ≡ fresh ⌝ }
         ensures fulfilled { λ r. ⌜ FromHere r ⌝ }
@@ -59,14 +59,14 @@ impl Parser {
         }
     }
 
-    // The counters so far.
+    // Returns the counters so far.
     pub fn stats(self) -> Stats
         ensures told { λ r. ⌜ r ≡ self .stats ⌝ }
     {
         self.stats
     }
 
-    // The length of the frame in progress.
+    // Returns the length of the frame in progress.
     pub fn unfinished(self) -> usize
         ensures told { λ r. ⌜ r ≡ unfinishedOf linkLimit self ⌝ }
     {

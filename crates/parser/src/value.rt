@@ -1,5 +1,5 @@
-// The parser by value: taken, fed or reset, and handed back. Each lends a local to the same call of a parser that is
-// lent: who calls it lends nothing, and needs no proof about memory.
+// The parser by value: taken, fed or reset, and handed back. Each call lends a local to the same call on a lent parser,
+// so that its own caller lends nothing, and needs no proof about memory.
 use super::Fed;
 use super::FedSlice;
 use super::Parser;
@@ -10,7 +10,7 @@ ghost use Rattle.parser.specs.Feed.{feedOf, feedSliceOf, resetOf};
 ghost use Rattle.parser.specs.Claims.{FromHere, FromAny, Determined, ResetFirst};
 
 impl Parser {
-    // Feeds one received byte; the answer is the frame that this byte completed, or no frame. A parser with a field out
+    // Feeds one received byte. The answer is the frame that this byte completed, or no frame. A parser with a field out
     // of range is handled as if reset came first.
     pub fn fed(self, byte: u8) -> Fed
         ensures fed { λ r. ⌜ r ≡ feedOf linkLimit self byte ⌝ }
@@ -24,8 +24,8 @@ impl Parser {
         }
     }
 
-    // Feeds bytes up to and including the end of the first whole frame, decoded or not, else all of them; the answer
-    // tells how many, and the frame. Call again with the rest.
+    // Feeds bytes up to and including the end of the first whole frame, decoded or not, else all of them. The answer is
+    // how many, and the frame. Call again with the rest.
     pub fn fed_slice(self, bytes: &[u8]) -> FedSlice
         ensures fed { λ r. ⌜ r ≡ feedSliceOf linkLimit self (now (bytes .entry)) ⌝ }
         ensures any { λ _. ⌜ FromAny self ⌝ }
@@ -38,9 +38,9 @@ impl Parser {
         }
     }
 
-    // Forgets a frame in progress and looks for a header again. The counters are kept. From what it returns, whatever
-    // parser it was given, every list of calls fulfils demand 3; and a parser with a field out of range is fed as it
-    // is.
+    // Forgets a frame in progress and looks for a header again. The counters are kept. Whatever parser it is given,
+    // every list of calls on what it returns fulfils demand 3. Feeding a parser with a field out of range gives the
+    // same as feeding what this returns.
     pub fn cleared(self) -> Self
         ensures reset { λ r. ⌜ r ≡ resetOf self ⌝ }
         ensures fulfilled { λ r. ⌜ FromHere r ⌝ }

@@ -1,12 +1,12 @@
-// Where the frames of the input stand, by their lengths.
+// Where the frames of the input begin and end, by their lengths.
 use wire::FRAMING;
 use wire::MaybeU16;
 use wire::le16;
 ghost use Prim.Native.Nat.{_<_, _≤_};
 ghost use lib.ListN.{length};
 
-// Where the frame ends that starts here: after as many data bytes as its length says, and the framing; or where the
-// input ends, if that is before.
+// Returns where the frame that starts here ends: after as many data bytes as its length says, and the framing; or where
+// the input ends, if that comes first.
 pub fn end(bytes: &[u8], start: usize) -> usize
     requires inside { ⌜ start < length (now bytes) ⌝ }
     ensures after { λ r. ⌜ (start < r) × (r ≤ length (now (bytes .entry))) ⌝ }
@@ -23,7 +23,7 @@ pub fn end(bytes: &[u8], start: usize) -> usize
     }
 }
 
-// The first start of a frame at a place or after it, or the input's end.
+// Returns the first start of a frame at a place or after it, or the input's end.
 pub fn boundary(bytes: &[u8], place: usize) -> usize
     requires inside { ⌜ place ≤ length (now bytes) ⌝ }
     ensures after { λ r. ⌜ (place ≤ r) × (r ≤ length (now (bytes .entry))) ⌝ }

@@ -1,10 +1,10 @@
-// What a disturbance of the stream costs. Standard input holds whole frames, one after another, up to 4,096 bytes, that
-// decode. It is disturbed at each byte, in each way of a small list, and a fresh parser takes the bytes before, what is
-// put in, and the rest. The boundary is the first start of a frame in the rest, or its end: from there on only whole
-// frames come. Such a frame is found if its last byte delivers a frame and its other bytes, and no more, were in
-// progress before; else it is lost, and its distance is that of its start from the boundary. The output has a line for
-// each way, and the bound of request 5, which is for frames with neither F4 nor FD among their data. The
-// file stdout beside src/ has what the original Rust loses (compare/src/recovery.rs).
+// What a disturbance of the stream costs. Standard input holds whole frames that decode, back to back, up to 4,096
+// bytes. The program disturbs it at each byte, in each way of a small list: a fresh parser takes the bytes before, what
+// is put in, and the rest. The boundary is the first start of a frame in the rest, or its end: from there on only whole
+// frames come. Such a frame is found if its last byte delivers a frame, and before that byte exactly its other bytes
+// were in progress; else it is lost. Its distance is that of its start from the boundary. The output has a line for
+// each way, and the bound of request 5, which is for frames with neither F4 nor FD among their data. The file stdout
+// beside src/ has what the original Rust loses (compare/src/recovery.rs).
 use counting::feed_all;
 use ld2410::FrameKind;
 use ld2410::MAX_DATA;
@@ -21,8 +21,8 @@ mod way;
 ghost use Prim.Native.Nat.{_<_, _≤_};
 ghost use lib.ListN.{length};
 
-// What the disturbed streams of a way cost: how many there were, the frames that they lost, the most that one of them
-// lost, and the largest distance at which a lost one began.
+// The cost of a way's disturbed streams: how many there were, the frames that they lost, the most that one of them
+// lost, and the largest distance of a lost frame.
 struct Cost {
     streams: u64,
     lost: u64,
@@ -30,7 +30,7 @@ struct Cost {
     farthest: usize,
 }
 
-// A parser that was fed a frame, and whether it found it.
+// A parser that was fed a frame, and whether it found the frame.
 struct FedFrame {
     parser: Parser,
     found: bool,
@@ -48,7 +48,7 @@ fn delivers(kind: FrameKind) -> bool {
     }
 }
 
-// Feeds a frame, and tells whether it is found.
+// Feeds a frame, and says whether it is found.
 fn feed_frame(parser: Parser, frame: &[u8]) -> FedFrame
     requires some { ⌜ 0 < length (now frame) ⌝ }
 {
@@ -64,7 +64,7 @@ fn feed_frame(parser: Parser, frame: &[u8]) -> FedFrame
     }
 }
 
-// Feeds the rest of the input, from a place on, and adds what this stream costs.
+// Feeds the rest of the input, from a place on, and adds the cost of this stream.
 fn go_on(cost: Cost, parser: Parser, bytes: &[u8], place: usize) -> Cost
     requires inside { ⌜ place ≤ length (now bytes) ⌝ }
 {

@@ -1,13 +1,13 @@
 // The runs of noise.
 use ld2410::MAX_DATA;
 
-// How many there are.
+// The number of runs.
 pub const RUNS: u8 = 5;
 
-// A run is as long as the largest data.
+// A run, as long as the largest data.
 pub type Run = [u8; MAX_DATA];
 
-// The runs, by their numbers.
+// Returns the run with a number.
 pub fn run(number: u8) -> Run {
     match number {
         0 => [0xF4; MAX_DATA],
@@ -18,7 +18,7 @@ pub fn run(number: u8) -> Run {
     }
 }
 
-// Zeros, and after them a header and the largest length: the next bytes are taken for data.
+// Returns zeros, and after them a header and the largest length: the next bytes are taken for data.
 fn begun(header: [u8; 4]) -> Run {
     let mut run = [0; MAX_DATA];
     run[MAX_DATA - 6] = header[0];
@@ -29,7 +29,7 @@ fn begun(header: [u8; 4]) -> Run {
     run
 }
 
-// Bytes of which none begins a header.
+// Returns bytes, none of which begins a header.
 fn mixed() -> Run {
     let mut run = [0; MAX_DATA];
     let mut i = 0;

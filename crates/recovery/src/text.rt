@@ -7,13 +7,13 @@ fn text(bytes: &[u8]) {
     io::write_all(STDOUT_FILENO, bytes);
 }
 
-// A number, after what stands before it.
+// Writes a number after the bytes `before`.
 fn number(before: &[u8], n: u64) {
     text(before);
     io::print_decimal(STDOUT_FILENO, n);
 }
 
-// What the streams of a way cost.
+// Writes what the streams of a way cost.
 pub fn cost(name: &[u8], cost: Cost) {
     text(name);
     number(b": ", cost.streams);
@@ -23,7 +23,7 @@ pub fn cost(name: &[u8], cost: Cost) {
     text(b" bytes after the boundary\n");
 }
 
-// The distance from which on no frame is lost.
+// Writes the distance from which on no frame is lost.
 pub fn bound(distance: usize) {
     number(b"bound: none ", distance as u64);
     text(b" or more bytes after the boundary\n");

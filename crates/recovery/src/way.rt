@@ -5,8 +5,8 @@ use counting::feed_all;
 use ld2410::Parser;
 ghost use Prim.Native.Nat.{_≤_};
 
-// The byte at the place is changed to each other one, or dropped; or each byte, or each run of noise, is put in before
-// it.
+// A way: the byte at the place is changed to each other byte, or dropped; or each byte, or each run of noise, is put in
+// before it.
 pub enum Way {
     Changed,
     Dropped,
@@ -15,7 +15,7 @@ pub enum Way {
 }
 
 impl Way {
-    // Whether there is a disturbance of this number where the place has this byte.
+    // Tests whether there is a disturbance of this number where the place has this byte.
     pub fn has(self, number: u8, byte: u8) -> bool {
         match self {
             Way::Changed => number != byte,
@@ -25,7 +25,7 @@ impl Way {
         }
     }
 
-    // The parser, fed with what the disturbance puts in.
+    // Feeds the parser what the disturbance puts in.
     pub fn fed(self, number: u8, parser: Parser) -> Parser {
         match self {
             Way::Changed | Way::Inserted => {
@@ -40,7 +40,7 @@ impl Way {
         }
     }
 
-    // How many bytes of the input are left out at the place.
+    // Returns how many bytes of the input are left out at the place.
     pub fn left_out(self) -> usize
         ensures few { λ r. ⌜ r ≤ 1 ⌝ }
     {

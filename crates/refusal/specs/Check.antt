@@ -1,12 +1,13 @@
--- The checks of document 01 as values, and what fails first.
---   Checks            checks in the order in which they are made, each with the test that it is on a byte string
---   firstFailed cs s  the first of the checks cs that fails on s, if one does
---   Passes cs s       no check of cs fails on s
---   FailsFirst cs c s the check c of cs fails on s, and each before it holds
---   errorOf c         the refusal where c is the first to fail: "R6 (else refusal 2)", every other gives 1
---   outcomeOf o       the outcome of a reader whose first failed check, if any, is o
---   Causes z cs s r   each number is returned by r exactly in its cause, and beside it every other field is 0; z is the
---                     value that is all 0
+-- The checks of document 01 as values, and which of them fails first.
+--   Checks              checks in the order in which they are made, each with its test of a byte string
+--   orFailed holds c later   the check c if its test does not hold, else what failed later
+--   firstFailed cs s    the first of the checks cs that fails on s, if any
+--   Passes cs s         every check of cs holds on s
+--   FailsFirst cs c s   the check c of cs fails on s, and each check before it holds
+--   errorOf c           the refusal if c is the first check that fails: 2 for R6 ("else refusal 2"), 1 for every other
+--   outcomeOf o         the outcome of a reader whose first failed check, if any, is o
+--   Causes z cs s r     r returns each number exactly in its cause, and beside a refusal every other field is 0; z is
+--                       the value with every field 0
 use mathlib.Core.Path.{_≡_}
 use mathlib.Core.Logic.{_≢_, _↔_, _⊎_}
 use mathlib.Core.List.{List, [], _∷_, _++_}
@@ -67,11 +68,11 @@ outcomeOf Maybe.None = Ok
 pub record Causes {A : Type 0} (z : A) (cs : Checks) (s : List ℕ) (r : Returned A) : Type 0 where
   -- nothing is refused exactly if every check holds
   pub accepted : r .number ≡ 0 ↔ Passes cs s
-  -- 1 is given exactly where the first check that fails is another than R6
+  -- 1 is returned exactly if the first check that fails is not R6
   pub invalid : r .number ≡ 1 ↔ (c : Check) × FailsFirst cs c s × (c ≢ R6)
-  -- 2 is given exactly where that is R6
+  -- 2 is returned exactly if it is R6
   pub unsupported : r .number ≡ 2 ↔ FailsFirst cs R6 s
-  -- and nothing else is given
+  -- no other number is returned
   pub total : (r .number ≡ 0) ⊎ ((r .number ≡ 1) ⊎ (r .number ≡ 2))
   -- "number, other fields 0"
   pub blank : r .number ≢ 0 → r ≡ record { number = r .number; needed = 0; value = z }

@@ -1,13 +1,13 @@
 -- The refusals, by document 01's table "What each refusal means".
 --   numberOf e       the number that the table gives to the cause e
---   neededOf e       the bytes needed that stand beside number 4; 0 beside every other number
---   refusalOf o      the number of an outcome's refusal, 0 where nothing is refused
---   neededBy o       the bytes needed that stand beside that number
+--   neededOf e       the bytes needed, which come with number 4; 0 with every other number
+--   refusalOf o      the number of the outcome o, 0 if nothing is refused
+--   neededBy o       the bytes needed that come with that number
 --   Returned A       what a call returns, by the table's column "Returned": a number, the bytes needed, and a value
 --   accepted v       nothing is refused: number 0, and the value v
---   refused z e      refused by e: "number, other fields 0", or "number and bytes needed"; z is the value that is all 0
---   returned z o v   what a call returns by its outcome o: the value v, or the refusal beside z
---   beside o v       what is returned by an answer that holds its outcome o beside the value v
+--   refused z e      e refuses: "number, other fields 0", or "number and bytes needed"; z has every field 0
+--   returned z o v   what a call with the outcome o returns: the value v, or the refusal and z
+--   beside o v       what a call returns whose answer has the outcome o beside the value v
 use Prim.Native.Nat.{ℕ}
 use Rattle.refusal.specs.declared.Error.{Error}
 use Rattle.refusal.specs.declared.Error.the-variants.{InvalidFormat, Unsupported, Hardware, BufferTooSmall}

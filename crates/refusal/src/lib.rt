@@ -1,9 +1,9 @@
-// Why a call is refused: the refusals with document 01's numbers, and the checks that give them, in its order.
+// The refusals of a call with document 01's numbers, and the checks that give them, in its order.
 ghost use mathlib.Core.Path.{_≡_};
 ghost use Rattle.refusal.specs.Refusal.{numberOf, neededOf, refusalOf};
 ghost use Rattle.refusal.specs.Check.{errorOf, outcomeOf};
 
-// Why a call is refused.
+// The refusals of a call.
 pub enum Error {
     // A layout that does not fit, another command's acknowledgement, a short payload.
     InvalidFormat,
@@ -13,13 +13,13 @@ pub enum Error {
     Hardware,
     // The output is shorter than the frame, which takes `needed` bytes.
     BufferTooSmall { needed: usize },
-    // A command frame to whose bytes no command encodes.
+    // A command's frame to whose bytes no command encodes.
     UnknownCommand,
-    // A value that no reader gives, or that the writer's lengths leave out.
+    // A value that no reader gives, or that is too long for the writer.
     Unrepresentable,
 }
 
-// Whether a call is refused, beside a value that is all 0 where it is.
+// Success, or a refusal. The value beside a refusal is all 0.
 pub enum Outcome {
     Ok,
     Err(Error),
@@ -50,7 +50,7 @@ pub enum MaybeCheck {
 }
 
 impl Error {
-    // The number that document 01 gives to the refusal, 1 to 6.
+    // Returns the number that document 01 gives to the refusal, 1 to 6.
     pub fn number(self) -> u8
         ensures numbered { λ r. ⌜ r ≡ numberOf self ⌝ }
     {
@@ -64,7 +64,7 @@ impl Error {
         }
     }
 
-    // The bytes needed, with number 4; else 0.
+    // Returns the bytes needed, with number 4; else 0.
     pub fn needed(self) -> usize
         ensures told { λ r. ⌜ r ≡ neededOf self ⌝ }
     {
@@ -80,7 +80,7 @@ impl Error {
 }
 
 impl Outcome {
-    // The refusal's number, or 0 where nothing is refused.
+    // Returns the refusal's number, or 0 if nothing is refused.
     pub fn number(self) -> u8
         ensures numbered { λ r. ⌜ r ≡ refusalOf self ⌝ }
     {
@@ -92,7 +92,7 @@ impl Outcome {
 }
 
 impl MaybeCheck {
-    // What a reader answers: the refusal that the first failed check gives, or none.
+    // Returns a reader's answer: the refusal that the first failed check gives, or none.
     pub fn outcome(self) -> Outcome
         ensures refused { λ r. ⌜ r ≡ outcomeOf self ⌝ }
     {
@@ -104,7 +104,7 @@ impl MaybeCheck {
 }
 
 impl Check {
-    // The refusal that a reader gives where this check is the first that fails.
+    // Returns the refusal that a reader gives if this check is the first that fails.
     pub fn error(self) -> Error
         ensures refused { λ r. ⌜ r ≡ errorOf self ⌝ }
     {

@@ -1,5 +1,5 @@
 // Ops 6, 9 and 12: the encoder of commands, the reader of command frames, and the rates. Each puts the numbers that
-// stand after its op.
+// follow its op.
 use crate::writers;
 use ld2410::Baud;
 use ld2410::Command;
@@ -18,7 +18,7 @@ use replay_io::line::number;
 use replay_io::line::row;
 use writer::u16_bytes;
 
-// Op 6, on a buffer and a command: what its writer puts, then what the command says of itself.
+// Answers op 6, on a buffer and a command: what its writer puts, then the command's word and size.
 pub fn encode(out: &mut Text, taken: usize, argument: &[u8]) -> usize {
     match command_in(writers::value_in(argument)) {
         MaybeCommand::Some(command) => {
@@ -30,12 +30,12 @@ pub fn encode(out: &mut Text, taken: usize, argument: &[u8]) -> usize {
     }
 }
 
-// Op 9, on the bytes of a command's frame.
+// Answers op 9, on the bytes of a command's frame.
 pub fn read(out: &mut Text, taken: usize, data: &[u8]) -> usize {
     bytes(out, taken, &read_in(data))
 }
 
-// The refusal and the six bytes of the command that a frame holds.
+// Returns the refusal and the six bytes of the command that a frame holds.
 fn read_in(data: &[u8]) -> [u8; 7] {
     match read_command(data) {
         CommandResult::Ok(command) => six_of(command),
@@ -43,7 +43,7 @@ fn read_in(data: &[u8]) -> [u8; 7] {
     }
 }
 
-// No refusal, and the six bytes of a command.
+// Returns no refusal, and the six bytes of a command.
 fn six_of(command: Command) -> [u8; 7] {
     match command {
         Command::EnableConfig => [0, 0, 0, 0, 0, 0, 0],
@@ -75,7 +75,7 @@ fn six_of(command: Command) -> [u8; 7] {
     }
 }
 
-// Whether a gate is all of them, and its index.
+// Returns whether a gate is all of them, and its index.
 fn two_of(gate: Gate) -> [u8; 2] {
     match gate {
         Gate::Index(index) => [0, index],
@@ -83,12 +83,12 @@ fn two_of(gate: Gate) -> [u8; 2] {
     }
 }
 
-// Op 12, on a rate's index.
+// Answers op 12, on a rate's index.
 pub fn baud(out: &mut Text, taken: usize, argument: &[u8]) -> usize {
     row(out, taken, rate(u16_at(argument, 0)), 3)
 }
 
-// Whether an index has a rate, the rate's index, and its bits per second.
+// Returns whether an index has a rate, the rate's index, and its bits per second.
 fn rate(index: u16) -> Row {
     match Baud::from_index(index) {
         MaybeBaud::Some(baud) => {

@@ -1,4 +1,4 @@
-// The parser that a script begins with: a new one, in op 13 one built from its fields.
+// The parser that a script begins with: a new one, or in op 13 one built from its fields.
 use crate::numbers::u64_at;
 use crate::numbers::usize_at;
 use ld2410::Kind;
@@ -14,20 +14,20 @@ use wire::copy_prefix;
 // Where a parser's buffer begins in an argument of op 13.
 const BUFFER_AT: usize = 58;
 
-// Where the script begins there.
+// Where the script begins in such an argument.
 const SCRIPT_AT: usize = BUFFER_AT + MAX_FRAME;
 
-// Whether an argument of op 13 has a parser.
+// Tests whether an argument of op 13 has a parser.
 pub fn whole(argument: &[u8]) -> bool {
     argument.len() >= SCRIPT_AT && u8_at(argument, 0) <= 3 && u8_at(argument, 1) <= 1
 }
 
-// Where the script begins in the argument of an op.
+// Returns where the script begins in the argument of an op.
 pub fn script_at(op: u8) -> usize {
     if op == 13 { SCRIPT_AT } else { 0 }
 }
 
-// The parser of an op.
+// Returns the parser of an op.
 pub fn parser(op: u8, argument: &[u8]) -> Parser {
     if op == 13 {
         built(argument)
@@ -36,7 +36,7 @@ pub fn parser(op: u8, argument: &[u8]) -> Parser {
     }
 }
 
-// The parser with the fields.
+// Builds the parser from its fields.
 fn built(argument: &[u8]) -> Parser {
     let mut buf: [u8; MAX_FRAME] = [0; MAX_FRAME];
     copy_prefix(&mut buf, rest(argument, BUFFER_AT));
@@ -47,7 +47,7 @@ fn built(argument: &[u8]) -> Parser {
     }
 }
 
-// The scan in an argument of op 13.
+// Reads the scan in an argument of op 13.
 fn scan(argument: &[u8]) -> Scan {
     Scan {
         state: state(u8_at(argument, 0)),
@@ -58,7 +58,7 @@ fn scan(argument: &[u8]) -> Scan {
     }
 }
 
-// The state of a number up to 3.
+// Returns the state of a number up to 3.
 fn state(number: u8) -> State {
     match number {
         0 => State::Header,
@@ -68,7 +68,7 @@ fn state(number: u8) -> State {
     }
 }
 
-// The family of 0 or 1.
+// Returns the kind of 0 or 1.
 fn kind(number: u8) -> Kind {
     match number {
         0 => Kind::Report,
@@ -76,7 +76,7 @@ fn kind(number: u8) -> Kind {
     }
 }
 
-// The counters in an argument of op 13.
+// Reads the counters in an argument of op 13.
 fn stats(argument: &[u8]) -> Stats {
     Stats {
         frames: u64_at(argument, 26),

@@ -1,4 +1,4 @@
-// The numbers of eight bytes in an argument, little-endian; a half that is not there reads as 0.
+// Numbers of eight bytes in an argument, little-endian; a missing half reads as 0.
 use replay_io::argument::u32_at;
 ghost use Prim.Native.Nat.{_<_};
 

@@ -27,7 +27,7 @@ pub fn answer(out: &mut Text, taken: usize, case: &[u8]) -> usize {
     }
 }
 
-// Whether the op is one of scripts, and its argument has a parser if it is op 13.
+// Tests whether the op is one of scripts, and its argument has a parser if it is op 13.
 fn is_script(op: u8, argument: &[u8]) -> bool {
     match op {
         10 => true,
@@ -48,7 +48,7 @@ fn one_line(out: &mut Text, taken: usize, op: u8, argument: &[u8]) -> usize {
     line::end(out, n)
 }
 
-// Whether an op of one line is in the table, and the argument is one of its arguments.
+// Tests whether an op of one line is in the table, and the argument is one of its arguments.
 fn has_answer(op: u8, argument: &[u8]) -> bool {
     let shortest = match op {
         1 => 1,
@@ -67,7 +67,7 @@ fn has_answer(op: u8, argument: &[u8]) -> bool {
     argument.len() >= shortest && writers::has_value(op, argument)
 }
 
-// Puts what stands after the op in its line.
+// Puts what follows the op in its line.
 fn fields(out: &mut Text, taken: usize, op: u8, argument: &[u8]) -> usize {
     match op {
         1 => readers::target_state(out, taken, argument),

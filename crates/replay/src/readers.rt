@@ -1,5 +1,5 @@
 // Ops 1 to 5 and 14: the readers of reports, acknowledgements and whole frames, and the replies of an acknowledgement.
-// Each puts the numbers that stand after its op.
+// Each puts the numbers that follow its op.
 use crate::numbers::usize_at;
 use crate::replies;
 use crate::values;
@@ -17,13 +17,13 @@ use replay_io::line::Text;
 use replay_io::line::number;
 use replay_io::line::row;
 
-// Op 1, on a byte.
+// Answers op 1, on a byte.
 pub fn target_state(out: &mut Text, taken: usize, argument: &[u8]) -> usize {
     let state = TargetState::from_byte(u8_at(argument, 0));
     row(out, taken, values::target_state(state), 4)
 }
 
-// Op 2, on a report's data.
+// Answers op 2, on a report's data.
 pub fn report(out: &mut Text, taken: usize, data: &[u8]) -> usize {
     let read = Report::parse(data);
     let outcome = read.outcome;
@@ -31,7 +31,7 @@ pub fn report(out: &mut Text, taken: usize, data: &[u8]) -> usize {
     values::report(out, n, read.report)
 }
 
-// Op 3, on an acknowledgement's data.
+// Answers op 3, on an acknowledgement's data.
 pub fn ack(out: &mut Text, taken: usize, data: &[u8]) -> usize {
     match Ack::parse(data) {
         AckResult::Ok(ack) => {
@@ -42,7 +42,7 @@ pub fn ack(out: &mut Text, taken: usize, data: &[u8]) -> usize {
     }
 }
 
-// Op 4, on an awaited word and an acknowledgement's data.
+// Answers op 4, on an awaited word and an acknowledgement's data.
 pub fn replies(out: &mut Text, taken: usize, argument: &[u8]) -> usize {
     let data = rest(argument, 2);
     match Ack::parse(data) {
@@ -54,7 +54,7 @@ pub fn replies(out: &mut Text, taken: usize, argument: &[u8]) -> usize {
     }
 }
 
-// Op 5, on the bytes of a whole frame.
+// Answers op 5, on the bytes of a whole frame.
 pub fn frame(out: &mut Text, taken: usize, data: &[u8]) -> usize {
     let read = Frame::parse(data);
     let outcome = read.outcome;
@@ -62,7 +62,7 @@ pub fn frame(out: &mut Text, taken: usize, data: &[u8]) -> usize {
     values::frame(out, n, read.frame)
 }
 
-// Op 14, on the fields of an acknowledgement, an awaited word and the bytes that the payload stands in.
+// Answers op 14, on the fields of an acknowledgement, an awaited word and the bytes that hold the payload.
 pub fn replies_of_built(out: &mut Text, taken: usize, argument: &[u8]) -> usize {
     replies::all(
         out,
@@ -73,7 +73,7 @@ pub fn replies_of_built(out: &mut Text, taken: usize, argument: &[u8]) -> usize 
     )
 }
 
-// The acknowledgement with the fields.
+// Builds the acknowledgement from its fields.
 fn ack_in(argument: &[u8]) -> Ack {
     Ack {
         word: u16_at(argument, 0),

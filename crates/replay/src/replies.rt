@@ -1,4 +1,4 @@
-// What an acknowledgement answers: `expect` of a word and the four replies, each its refusal and then its fields.
+// The answers of an acknowledgement: `expect` of a word and the four replies, each its refusal and then its fields.
 use crate::values::gates;
 use ld2410::Ack;
 use ld2410::EnableConfigResult;
@@ -12,7 +12,7 @@ use replay_io::line::bytes;
 use replay_io::line::number;
 use replay_io::line::row;
 
-// `expect` of the awaited word, then the replies, on an acknowledgement and the bytes that its payload stands in.
+// Puts `expect` of the awaited word, then the replies, for an acknowledgement whose payload is in `data`.
 pub fn all(out: &mut Text, taken: usize, ack: Ack, awaited: u16, data: &[u8]) -> usize {
     let n = row(out, taken, span(ack.expect(awaited)), 3);
     let n = row(out, n, enable_config(ack.enable_config(data)), 3);

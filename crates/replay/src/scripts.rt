@@ -1,5 +1,5 @@
-// Ops 10, 11 and 13: a script of calls on one parser, handed on from call to call. Each puts a line, and a closing line
-// follows.
+// Ops 10, 11 and 13: a script of calls on one parser, handed on from call to call. Each call puts a line, and a closing
+// line follows.
 use crate::values;
 use frame::no_frame;
 use ld2410::FedSlice;
@@ -59,7 +59,7 @@ fn fed(parser: Parser, byte: u8) -> FedSlice {
     }
 }
 
-// Puts the line of a call: its answer, then an acknowledgement's payload as it stands in the parser's buffer.
+// Puts the line of a call: its answer, then the bytes of an acknowledgement's payload in the parser's buffer.
 fn answered(out: &mut Text, taken: usize, op: u8, fed: FedSlice) -> usize {
     let parser = fed.parser;
     let buf = parser.buf;
@@ -92,7 +92,7 @@ fn closing(out: &mut Text, taken: usize, op: u8, parser: Parser) -> usize {
     line::end(out, n)
 }
 
-// The counters, and the length of the frame in progress.
+// Returns the counters, and the length of the frame in progress.
 fn counters(parser: Parser) -> Row {
     let stats = parser.stats();
     [

@@ -1,4 +1,4 @@
-// The values of the link as numbers of a line: a function for each type, its fields first, then what its accessors say.
+// The values of the link as numbers of a line: a function for each type, its fields first, then its accessors.
 use ld2410::Ack;
 use ld2410::Engineering;
 use ld2410::Frame;
@@ -14,7 +14,7 @@ use replay_io::line::bytes;
 use replay_io::line::number;
 use replay_io::line::row;
 
-// A target state: its byte, then what it says.
+// Returns a target state: its byte, then its accessors.
 pub fn target_state(state: TargetState) -> Row {
     [
         state.to_byte() as u64,
@@ -27,7 +27,7 @@ pub fn target_state(state: TargetState) -> Row {
     ]
 }
 
-// A report: its fields, with those of its engineering part, then its accessors and that part's.
+// Puts a report: its fields, with those of its engineering block, then its accessors and the block's.
 pub fn report(out: &mut Text, taken: usize, report: Report) -> usize {
     let block = report.engineering;
     let n = row(out, taken, basic(report), 7);
@@ -36,7 +36,7 @@ pub fn report(out: &mut Text, taken: usize, report: Report) -> usize {
     row(out, n, engineering_accessors(block), 7)
 }
 
-// The fields of a report but for its engineering part.
+// Returns the fields of a report but for its engineering block.
 fn basic(report: Report) -> Row {
     let state = report.state;
     [
@@ -50,7 +50,7 @@ fn basic(report: Report) -> Row {
     ]
 }
 
-// The accessors of a report: both targets, then `present`.
+// Returns the accessors of a report: both targets, then `present`.
 fn accessors(report: Report) -> Row {
     let moving = target(report.moving());
     let still = target(report.stationary());
@@ -66,7 +66,7 @@ fn accessors(report: Report) -> Row {
     ]
 }
 
-// A target that may be absent: whether it is there, its distance and its energy.
+// Returns a target that may be absent: whether it is present, its distance and its energy.
 fn target(target: MaybeTarget) -> [u64; 3] {
     match target {
         MaybeTarget::Some(t) => [1, t.distance_cm as u64, t.energy as u64],
@@ -74,7 +74,7 @@ fn target(target: MaybeTarget) -> [u64; 3] {
     }
 }
 
-// The fields of an engineering part.
+// Puts the fields of an engineering block.
 fn engineering(out: &mut Text, taken: usize, block: Engineering) -> usize {
     let moving = block.moving_energy;
     let stationary = block.stationary_energy;
@@ -86,13 +86,13 @@ fn engineering(out: &mut Text, taken: usize, block: Engineering) -> usize {
     number(out, n, block.extra_len as u64)
 }
 
-// A byte for each gate, of moving and of stationary targets.
+// Puts a byte for each gate, of moving and of stationary targets.
 pub fn gates(out: &mut Text, taken: usize, moving: [u8; GATES], stationary: [u8; GATES]) -> usize {
     let n = bytes(out, taken, &moving);
     bytes(out, n, &stationary)
 }
 
-// The accessors of an engineering part: three valid counts, `light` and `out_pin`.
+// Returns the accessors of an engineering block: three valid counts, `light` and `out_pin`.
 fn engineering_accessors(block: Engineering) -> Row {
     let moving = block.moving();
     let stationary = block.stationary();
@@ -110,7 +110,7 @@ fn engineering_accessors(block: Engineering) -> Row {
     ]
 }
 
-// A byte that may be absent: whether it is there, and its value.
+// Returns a byte that may be absent: whether it is present, and its value.
 fn byte(byte: MaybeU8) -> [u64; 2] {
     match byte {
         MaybeU8::Some(b) => [1, b as u64],
@@ -118,7 +118,7 @@ fn byte(byte: MaybeU8) -> [u64; 2] {
     }
 }
 
-// An acknowledgement, its payload by start and length.
+// Returns an acknowledgement, its payload by start and length.
 pub fn ack(ack: Ack) -> Row {
     let payload = ack.payload;
     [
@@ -132,7 +132,7 @@ pub fn ack(ack: Ack) -> Row {
     ]
 }
 
-// A frame: its kind, its report and its acknowledgement.
+// Puts a frame: its kind, its report and its acknowledgement.
 pub fn frame(out: &mut Text, taken: usize, frame: Frame) -> usize {
     let kind = frame.kind;
     let n = number(out, taken, kind_number(kind));

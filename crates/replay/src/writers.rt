@@ -35,8 +35,8 @@ const STATIONARY_AT: usize = MOVING_AT + 9;
 
 const EXTRA_AT: usize = STATIONARY_AT + 9;
 
-// Whether the argument of an op has a value to write, if the op is a writer's: any acknowledgement is one, a report up
-// to state 6, and op 6 asks its command.
+// Tests whether the argument of an op has a value to write, if the op is a writer's: any acknowledgement is one, so is
+// a report up to state 6, and op 6 tests its command itself.
 pub fn has_value(op: u8, argument: &[u8]) -> bool {
     match op {
         7 => u8_at(argument, VALUE_AT) <= 6,
@@ -44,19 +44,19 @@ pub fn has_value(op: u8, argument: &[u8]) -> bool {
     }
 }
 
-// The bytes of the value.
+// Returns the bytes of the value.
 pub fn value_in(argument: &[u8]) -> &[u8] {
     rest(argument, VALUE_AT)
 }
 
-// Writes into a buffer of the length, and puts the answer and the buffer.
+// Writes into a buffer as long as the argument says, and puts the answer and the buffer.
 pub fn write(out: &mut Text, taken: usize, op: u8, argument: &[u8]) -> usize {
     let fill = u8_at(argument, 2);
     let mut buffer: [u8; LONGEST] = [fill; LONGEST];
     write_in_front(out, taken, op, argument, &mut buffer)
 }
 
-// Writes into the front of the length of a buffer.
+// Writes into the front of a buffer, as many bytes of it as the argument says.
 fn write_in_front(
     out: &mut Text,
     taken: usize,
@@ -75,7 +75,7 @@ fn write_to(out: &mut Text, taken: usize, op: u8, value: &[u8], buffer: &mut [u8
     bytes(out, n, buffer)
 }
 
-// Writes into the buffer, and answers the refusal, and the bytes written or needed.
+// Writes into the buffer, and returns the refusal, and the bytes written or needed.
 fn written(op: u8, value: &[u8], buffer: &mut [u8]) -> Row {
     match answer_of(op, value, buffer) {
         WriteResult::Ok(count) => [0, count as u64, 0, 0, 0, 0, 0],
@@ -96,7 +96,7 @@ fn answer_of(op: u8, value: &[u8], buffer: &mut [u8]) -> WriteResult {
     }
 }
 
-// Encodes the command that the bytes are. Op 6 is not answered with bytes that are none.
+// Encodes the command that the bytes are. Op 6 does not come here with bytes that are no command.
 fn encode(value: &[u8], buffer: &mut [u8]) -> WriteResult {
     match command_in(value) {
         MaybeCommand::Some(command) => command.encode(buffer),
@@ -104,7 +104,7 @@ fn encode(value: &[u8], buffer: &mut [u8]) -> WriteResult {
     }
 }
 
-// The report with the fields.
+// Builds the report from its fields.
 fn report_in(value: &[u8]) -> Report {
     Report {
         state: TargetState::from_byte(u8_at(value, 0)),
@@ -118,7 +118,7 @@ fn report_in(value: &[u8]) -> Report {
     }
 }
 
-// Its engineering block.
+// Builds its engineering block.
 fn engineering_in(value: &[u8]) -> Engineering {
     let mut extra: [u8; MAX_EXTRA] = [0; MAX_EXTRA];
     copy_prefix(&mut extra, rest(value, EXTRA_AT));

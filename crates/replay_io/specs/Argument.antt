@@ -1,5 +1,7 @@
--- The fields of an argument: "Numbers in an argument are little-endian, and a truth value above 1 counts as 1."
---   fieldAt n s i   the number in the n bytes of s from place i; 0 where they are not all there
+-- The fields of an argument. docs/REPLAY.md: "Numbers in an argument are little-endian, and a truth value above 1
+-- counts as 1."
+--   orZero o        the number in o, or 0
+--   fieldAt n s i   the number in the n bytes of s from place i on; 0 if s does not have them all
 --   flagAt s i      the truth value at place i
 use mathlib.Core.List.{List}
 use mathlib.Core.Bool.{Bool}

@@ -1,19 +1,18 @@
--- The cases of the input, as they stand in a buffer.
---   caseSize s         the bytes of a case that s begins with: "A case is `op` (1 byte), `n` (4 bytes, little-endian),
---                      then n argument bytes."
---   foundIn s          what the input is, if s is all that is left of it: a case at its front; or one that is too long,
---                      "an `n` above 70,000"; or it "ends inside a case", or "between two cases"
---   decided f          whether it stays so, whatever follows
---   isCase f           whether it is a case
---   sized f s          the bytes of the case at the front of s, if one was found
---   unread b i n       the bytes of the buffer b from place i to place n
---   nothingRead        before the first case
---   nextAt b i n       the next case, if the bytes from place i to place n are read and not used
---   readOf b x, usedOf b x   after the case x of the buffer b: how many of its bytes are read, and how many of these
---                      are used; both as far as they lie within it
---   unused b x         the bytes that are read and not used
---   NextCase b x b′ r  after the case x of the buffer b, r is the next, and it stands in the buffer b′
---   Grown b k b′ n     the first k bytes of b stand in b′, where n bytes are read
+-- The cases of the input, as they lie in a buffer. Quotations are from docs/REPLAY.md.
+--   caseSize s          the length of a case that s begins with: "A case is `op` (1 byte), `n` (4 bytes,
+--                       little-endian), then n argument bytes."
+--   foundIn s           what the rest of the input is, if it is s: a case at its front; or one that is too long, "an
+--                       `n` above 70,000"; or it "ends inside a case", or "between two cases"
+--   decided f           whether it stays so, whatever follows s
+--   isCase f            whether it is a case
+--   sized f s           the length of the case at the front of s, 0 if none was found
+--   unread b i n        the bytes of the buffer b from place i to place n
+--   nothingRead         what comes before the first case
+--   nextAt b i n        the next case, if the bytes of b from place i to place n are read and not used
+--   readOf b x, usedOf b x   after the case x, how many bytes of the buffer b are read, and how many of these are used
+--   unused b x          the bytes that are read and not used
+--   NextCase b x b′ r   after the case x of the buffer b, r is the next, and it lies in the buffer b′
+--   Grown b k b′ n      the buffer b′ begins with the first k bytes of b, and n of its bytes are read
 use mathlib.Core.Path.{_≡_}
 use mathlib.Core.List.{List, _++_}
 use mathlib.Core.Bool.{Bool, true, false, cond}
@@ -79,14 +78,14 @@ pub record NextCase (b : List ℕ) (x : Next) (b′ : List ℕ) (r : Next) : Typ
   pub within : r .read ≤ length b′
   -- it has at most 70,005 bytes
   pub small : r .end ≤ r .start + 70005
-  -- it is what stands at the front of those that are not used
+  -- it is the case at the front of the bytes that are not used
   pub told : r ≡ nextAt b′ (r .start) (r .read)
-  -- these are those that were left after the case x, and more that were read
+  -- these are the bytes left after the case x, and more that were read
   pub more : List ℕ
   pub kept : unread b′ (r .start) (r .read) ≡ unused b x ++ more
-  -- where those that were left say what is next, no more are read, and the buffer stays as it is
+  -- if the bytes left decide what is next, no more are read, and the buffer stays as it is
   pub still : decided (foundIn (unused b x)) ≡ true → (b′ ≡ b) × (r ≡ nextAt b (usedOf b x) (readOf b x))
-  -- else they are moved to the front
+  -- else they are moved to the front of the buffer
   pub front : decided (foundIn (unused b x)) ≡ false → r .start ≡ 0
 
 pub record Grown (b : List ℕ) (k : ℕ) (b′ : List ℕ) (n : ℕ) : Type 0 where

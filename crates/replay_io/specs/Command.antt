@@ -1,9 +1,10 @@
--- "COMMAND, six bytes: the command's number, then five that are 0 where the table has nothing. Op 6 passes over what
--- stands there instead, and over a gate beside `all`."
+-- docs/REPLAY.md: "COMMAND, six bytes: the command's number, then five that are 0 where the table has nothing. Op 6
+-- passes over what stands there instead, and over a gate beside `all`."
 --   gateOf all i    the gate: "all (0 or 1), gate (0 with all)"
+--   rateSet m       `SetBaud` with the rate in m, or no command
 --   baudCommand i   `SetBaud`: "index; one that no rate has is no COMMAND"
---   numbered k s    the command with the number k and the bytes s, by the table; none where no line has the number
---   commandIn s     the command that the bytes s are
+--   numbered k s    the command with the number k and the bytes s, by the table; none if no line has the number
+--   commandIn s     the command that the bytes s say
 use mathlib.Core.List.{List}
 use mathlib.Core.Bool.{Bool, true, false, cond}
 use Prim.Native.Nat.{ℕ}

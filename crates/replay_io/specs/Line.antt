@@ -1,14 +1,15 @@
--- The lines of the answers, as they gather in a buffer of 65,536 bytes.
---   Gathered        a buffer, and how many of its bytes are taken
---   place n         where the next byte goes: after the n that are taken, or in front once a full buffer is written
---   putByte g b     what putting the byte b leaves; putAll g s, the bytes s one after the other
---   decimalOf v     the decimal digits of a number of 64 bits, which has at most 20
---   numbersOf vs    "decimal numbers, one space between": a space and its digits, for each of the numbers vs
---   signedText z    a space and the digits of a number that may be negative: "A number below 0 has a minus sign."
---   noneText        " none", after the op: "prints `op` and `none`"
---   lineFeed        "a line feed after"
---   closing f       the line that ends the answers: "Input that ends inside a case prints `short` and stops; an `n`
---                   above 70,000 prints `long` and stops. Input that ends between two cases prints nothing more."
+-- The lines of the answers, as they gather in a buffer of 65,536 bytes. Quotations are from docs/REPLAY.md.
+--   Gathered       a buffer, and how many of its bytes are taken
+--   place n        where the next byte goes: after the n that are taken, or to the front once a full buffer is written
+--   putByte g b    the buffer after the byte b was put; putAll g s, after the bytes s, one after another
+--   spelled k v    the decimal digits of a number v that has at most k of them
+--   decimalOf v    the decimal digits of a number of 64 bits, which has at most 20
+--   numbersOf vs   "decimal numbers, one space between": a space and its digits, for each of the numbers vs
+--   signedText z   a space and the digits of a number that may be negative: "A number below 0 has a minus sign."
+--   noneText       " none", after the op: "prints `op` and `none`"
+--   lineFeed       "a line feed after"
+--   closing f      the line that ends the answers: "Input that ends inside a case prints `short` and stops; an `n`
+--                  above 70,000 prints `long` and stops. Input that ends between two cases prints nothing more."
 use mathlib.Core.List.{List, [], _∷_, _++_}
 use mathlib.Core.Bool.{cond}
 use Prim.Native.Nat.{ℕ, zero, suc, _+_, _/_, _%_}
@@ -32,7 +33,6 @@ unfoldable pub putAll : Gathered → List ℕ → Gathered
 putAll g [] = g
 putAll g (b ∷ s) = putAll (putByte g b) s
 
--- The digits of a number that has at most k of them.
 abbrev pub spelled : ℕ → ℕ → List ℕ
 spelled zero v = []
 spelled (suc k) v = cond (ltb v 10) (glyph v ∷ []) (spelled k (v / 10) ++ (glyph (v % 10) ∷ []))

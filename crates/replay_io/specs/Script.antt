@@ -1,6 +1,6 @@
--- "SCRIPT: a row of calls on one parser, which is handed on from call to call."
---   callLength s   bytes of the first call of the script s, by the table; 0 where no line has its number
---   callSize s     the same, but 0 too for "a call that the script cuts short"
+-- docs/REPLAY.md: "SCRIPT: a row of calls on one parser, which is handed on from call to call."
+--   callLength s   the length of the first call of the script s, by the table; 0 if no line has its number
+--   callSize s     the same, but 0 too for a call that the script cuts short
 use mathlib.Core.List.{List}
 use mathlib.Core.Bool.{cond}
 use Prim.Native.Nat.{ℕ, _+_}

@@ -1,5 +1,5 @@
-// The fields of an argument: the little-endian number at a place. An op looks at its argument's length before it reads
-// them; where one is not there it reads as 0.
+// The fields of an argument: the little-endian number at a place. An op tests its argument's length before it reads
+// them; a missing byte reads as 0.
 use wire::MaybeU8;
 use wire::MaybeU16;
 use wire::MaybeU32;
@@ -11,7 +11,7 @@ ghost use mathlib.Core.Path.{_≡_};
 ghost use lib.ListN.{drop};
 ghost use Rattle.replay_io.specs.Argument.{fieldAt, flagAt};
 
-// The byte at a place.
+// Reads the byte at a place.
 pub fn u8_at(argument: &[u8], at: usize) -> u8
     ensures read { λ r. ⌜ r ≡ fieldAt 1 (now (argument .entry)) at ⌝ }
 {
@@ -21,14 +21,14 @@ pub fn u8_at(argument: &[u8], at: usize) -> u8
     }
 }
 
-// A truth value: any number but 0 counts as 1.
+// Reads a truth value: any number but 0 counts as 1.
 pub fn flag_at(argument: &[u8], at: usize) -> bool
     ensures read { λ r. ⌜ r ≡ flagAt (now (argument .entry)) at ⌝ }
 {
     u8_at(argument, at) > 0
 }
 
-// The number in two bytes.
+// Reads the number in two bytes.
 pub fn u16_at(argument: &[u8], at: usize) -> u16
     ensures read { λ r. ⌜ r ≡ fieldAt 2 (now (argument .entry)) at ⌝ }
 {
@@ -38,7 +38,7 @@ pub fn u16_at(argument: &[u8], at: usize) -> u16
     }
 }
 
-// The number in four bytes.
+// Reads the number in four bytes.
 pub fn u32_at(argument: &[u8], at: usize) -> u32
     ensures read { λ r. ⌜ r ≡ fieldAt 4 (now (argument .entry)) at ⌝ }
 {
@@ -48,7 +48,7 @@ pub fn u32_at(argument: &[u8], at: usize) -> u32
     }
 }
 
-// The bytes from a place on; none where the argument is not as long.
+// Returns the bytes from a place on; none if the argument is not as long.
 pub fn rest(argument: &[u8], at: usize) -> &[u8]
     ensures left { λ r. ⌜ now r ≡ drop at (now (argument .entry)) ⌝ }
 {

@@ -15,14 +15,14 @@ pub enum MaybeCommand {
     None,
 }
 
-// The command that the bytes are; a byte that is not there counts as 0, and those after the sixth are passed over.
+// Reads the command that the bytes are; a missing byte counts as 0, and those after the sixth are ignored.
 pub fn command_in(six: &[u8]) -> MaybeCommand
     ensures read { λ r. ⌜ r ≡ commandIn (now (six .entry)) ⌝ }
 {
     numbered(u8_at(six, 0), six)
 }
 
-// The command with the number and the bytes after it.
+// Reads the command with the number, its values from the bytes after it.
 fn numbered(number: u8, six: &[u8]) -> MaybeCommand
     ensures read { λ r. ⌜ r ≡ numbered number (now (six .entry)) ⌝ }
 {
@@ -53,14 +53,14 @@ fn numbered(number: u8, six: &[u8]) -> MaybeCommand
     )
 }
 
-// The gate with the index, or all of them.
+// Returns the gate with the index, or all of them.
 fn gate(all: bool, index: u8) -> Gate
     ensures meant { λ r. ⌜ r ≡ gateOf all index ⌝ }
 {
     if all { Gate::All } else { Gate::Index(index) }
 }
 
-// The command that sets the rate with the index, if there is one.
+// Returns the command that sets the rate with the index, if there is one.
 fn set_baud(index: u8) -> MaybeCommand
     ensures read { λ r. ⌜ r ≡ baudCommand index ⌝ }
 {

@@ -1,5 +1,5 @@
 // The cases of standard input: an op (1 byte), the argument's length (4) and the argument. They are read into a buffer
-// that the caller lends, and each stands there until the next is asked for.
+// that the caller lends, and each stays there until the next is asked for.
 use crate::argument::u32_at;
 use libc::STDIN_FILENO;
 use wire::min;
@@ -14,10 +14,10 @@ pub const SIZE: usize = 131_072;
 // Bytes of a case before its argument.
 pub const HEAD: usize = 5;
 
-// The most bytes that an argument has.
+// Most bytes of an argument.
 const LONGEST: u32 = 70_000;
 
-// What stands next in the input.
+// What comes next in the input.
 pub enum Found {
     // A whole case.
     Case,
@@ -29,7 +29,7 @@ pub enum Found {
     End,
 }
 
-// The next case: the bytes of the buffer from `start` to `end`, of the `read` bytes that were read. Where no case is
+// The next case: the bytes of the buffer from `start` to `end`, of the `read` bytes that were read. If no case is
 // found, it has no bytes.
 pub struct Next {
     pub start: usize,
@@ -39,7 +39,7 @@ pub struct Next {
 }
 
 impl Next {
-    // Whether it is a case.
+    // Tests whether it is a case.
     pub fn is_case(self) -> bool
         ensures tested { λ r. ⌜ r ≡ isCase (self .found) ⌝ }
     {
@@ -53,7 +53,7 @@ impl Next {
     }
 }
 
-// What stands before the first case: nothing is read yet.
+// Returns what comes before the first case: nothing is read yet.
 pub fn nothing_read() -> Next
     ensures made { λ r. ⌜ r ≡ nothingRead ⌝ }
 {
@@ -65,11 +65,11 @@ pub fn nothing_read() -> Next
     }
 }
 
-// The case after `case`, the one that was given before. The bytes that follow that one are kept: if they are no whole
-// case, they are moved to the front of the buffer, and more are read after them until a case is whole or too long, or
-// the input ends. A read that fails counts as the end of the input, and so does a buffer that is full; one of `SIZE`
-// bytes holds any case. No contract can name the bytes that a read gives, nor say that it was made: that the bytes
-// after those that were kept are the input's is what `more` is trusted for.
+// Returns the case after `case`, the one that was given before. The bytes that follow that one are kept: if they are no
+// whole case, they are moved to the front of the buffer, and more are read after them until a case is whole or too
+// long, or the input ends. A read that fails counts as the end of the input, and so does a buffer that is full; one of
+// `SIZE` bytes holds any case. No contract can name the bytes that a read gives, nor say that the read was made: `more`
+// is trusted to put the input's bytes after those that were kept.
 pub fn next_case(input: &mut [u8], case: Next) -> Next
     ensures found { λ r. ⌜ NextCase (now (input .entry)) case (now (input .exit)) r ⌝ }
 {
@@ -85,7 +85,7 @@ pub fn next_case(input: &mut [u8], case: Next) -> Next
     next_at(input, 0, end)
 }
 
-// The case at the front of the bytes from `start` to `read`.
+// Returns the case at the front of the bytes from `start` to `read`.
 fn next_at(input: &[u8], start: usize, read: usize) -> Next
     requires ordered { ⌜ start ≤ read ⌝ }
     requires inside { ⌜ read ≤ length (now input) ⌝ }
@@ -102,7 +102,7 @@ fn next_at(input: &[u8], start: usize, read: usize) -> Next
     }
 }
 
-// What stands at the front of the bytes, if nothing follows them.
+// Returns what is at the front of the bytes, if nothing follows them.
 fn found_in(bytes: &[u8]) -> Found
     ensures found { λ r. ⌜ r ≡ foundIn (now (bytes .entry)) ⌝ }
 {
@@ -120,7 +120,7 @@ fn found_in(bytes: &[u8]) -> Found
     }
 }
 
-// Bytes of what was found at the front of the bytes: of a case, and else none.
+// Returns the length of a case that was found at the front of the bytes; 0 if none was.
 fn size_of(found: Found, bytes: &[u8]) -> usize
     ensures sized { λ r. ⌜ r ≡ sized found (now (bytes .entry)) ⌝ }
 {
@@ -132,7 +132,7 @@ fn size_of(found: Found, bytes: &[u8]) -> usize
     }
 }
 
-// Whether what was found stays so, whatever follows.
+// Tests whether what was found stays so, whatever follows.
 fn is_decided(found: Found) -> bool
     ensures tested { λ r. ⌜ r ≡ decided found ⌝ }
 {
@@ -144,7 +144,7 @@ fn is_decided(found: Found) -> bool
     }
 }
 
-// Moves the bytes from `used` to `end` to the front, and answers how many they are.
+// Moves the bytes from `used` to `end` to the front, and returns how many they are.
 fn keep(input: &mut [u8], used: usize, end: usize) -> usize
     requires ordered { ⌜ used ≤ end ⌝ }
     requires inside { ⌜ end ≤ length (now input) ⌝ }
@@ -160,8 +160,8 @@ fn keep(input: &mut [u8], used: usize, end: usize) -> usize
     kept
 }
 
-// Reads after the bytes at the front that are kept, until a case is whole or too long, or nothing comes. Answers how
-// many bytes stand there then.
+// Reads after the bytes that are kept at the front, until a case is whole or too long, or nothing comes. Returns how
+// many bytes the buffer has then.
 fn fill(input: &mut [u8], kept: usize) -> usize
     requires inside { ⌜ kept ≤ length (now input) ⌝ }
     ensures grown { λ r. ⌜ Grown (now (input .entry)) kept (now (input .exit)) r ⌝ }
@@ -179,8 +179,8 @@ fn fill(input: &mut [u8], kept: usize) -> usize
     }
 }
 
-// Reads once, after the bytes at the front that are kept, and answers how many bytes stand there then: as many as
-// before where the input has ended or a read failed.
+// Reads once, after the bytes that are kept at the front, and returns how many bytes the buffer has then: as many as
+// before if the input has ended or a read failed.
 fn more(input: &mut [u8], kept: usize) -> usize
     requires inside { ⌜ kept ≤ length (now input) ⌝ }
     ensures grown { λ r. ⌜ Grown (now (input .entry)) kept (now (input .exit)) r ⌝ }

@@ -1,7 +1,7 @@
 // The lines of the answers. They gather in a buffer, which goes to standard output whenever it is full.
 //
-// Each function takes the buffer and how many of its bytes are taken, and answers how many are taken then. No contract
-// can name what is printed: each says what the buffer holds then, and that a byte is put in front once it was full.
+// Each function takes the buffer and how many of its bytes are taken, and returns how many are taken then. No contract
+// can name what is printed: each says what the buffer holds then, and that after a full buffer a byte is put in front.
 use crate::input::Found;
 use libc::STDOUT_FILENO;
 use wire::min;
@@ -21,7 +21,7 @@ pub type Text = [u8; SIZE];
 // A few numbers of a line, with zeros after them.
 pub type Row = [u64; 7];
 
-// Where the next byte goes: after those that are taken, or in front once a full buffer is written.
+// Returns where the next byte goes: after those that are taken, or in front once a full buffer is written.
 fn room(out: &Text, taken: usize) -> usize
     ensures found { λ r. ⌜ r ≡ place taken ⌝ }
 {
@@ -85,7 +85,7 @@ pub fn number(out: &mut Text, taken: usize, value: u64) -> usize
     decimal(out, n, value)
 }
 
-// How far a number is from 0. One below 0 is widened first, since 32,768 is no number of sixteen bits with a sign.
+// Returns how far a number is from 0. One below 0 is widened first, since 32,768 does not fit 16 bits with a sign.
 fn magnitude(value: i16) -> u64
     ensures told { λ r. ⌜ r ≡ natAbs value ⌝ }
 {
@@ -95,7 +95,7 @@ fn magnitude(value: i16) -> u64
     value as u64
 }
 
-// Puts a number after a space, with a minus sign where it is below 0.
+// Puts a number after a space, with a minus sign if it is below 0.
 pub fn signed(out: &mut Text, taken: usize, value: i16) -> usize
     ensures put { λ r. ⌜ gathered (now (out .exit)) r
         ≡ putAll (gathered (now (out .entry)) taken) (signedText value) ⌝ }
@@ -107,7 +107,7 @@ pub fn signed(out: &mut Text, taken: usize, value: i16) -> usize
     number(out, taken, magnitude(value))
 }
 
-// Puts the first numbers of a row; all of them where it has no more.
+// Puts the first `count` numbers of a row; all of them if it has no more.
 pub fn row(out: &mut Text, taken: usize, values: Row, count: usize) -> usize
     ensures put { λ r. ⌜ gathered (now (out .exit)) r
         ≡ putAll (gathered (now (out .entry)) taken) (numbersOf (take count values)) ⌝ }
@@ -122,7 +122,7 @@ pub fn row(out: &mut Text, taken: usize, values: Row, count: usize) -> usize
     n
 }
 
-// A byte as a number of a line.
+// Returns a byte as a number of a line.
 fn wide(byte: u8) -> u64
     ensures same { λ r. ⌜ r ≡ byte ⌝ }
 {
@@ -159,7 +159,7 @@ pub fn end(out: &mut Text, taken: usize) -> usize
     put(out, taken, b'\n')
 }
 
-// Says why the answers end before the input does, if they do, and writes what is taken then.
+// Says why the answers end before the input does, if they do, and writes what the buffer then has.
 pub fn finish(out: &mut Text, taken: usize, found: Found) -> usize
     ensures put { λ r. ⌜ gathered (now (out .exit)) r
         ≡ putAll (gathered (now (out .entry)) taken) (closing found) ⌝ }

@@ -6,7 +6,7 @@ ghost use Prim.Native.Nat.{_≤_};
 ghost use lib.ListN.{length};
 ghost use Rattle.replay_io.specs.Script.{callLength, callSize};
 
-// Bytes of the first call of a script, by its number; 0 where no call has the number.
+// Returns the length of the first call of a script, by its number; 0 if no call has the number.
 fn call_length(script: &[u8]) -> usize
     ensures told { λ r. ⌜ r ≡ callLength (now (script .entry)) ⌝ }
 {
@@ -18,7 +18,7 @@ fn call_length(script: &[u8]) -> usize
     }
 }
 
-// Bytes of the first call of a script; 0 where there is none, or not all of it.
+// Returns the length of the first call of a script; 0 if there is none, or not all of it.
 pub fn call_size(script: &[u8]) -> usize
     ensures told { λ r. ⌜ r ≡ callSize (now (script .entry)) ⌝ }
     ensures inside { λ r. ⌜ r ≤ length (now (script .entry)) ⌝ }

@@ -1,4 +1,4 @@
-// Ops 30 and 31: a frame that is read, and one that is written. Each puts the numbers that stand after its op.
+// Ops 30 and 31: a frame that is read, and one that is written. Each puts the numbers that follow its op.
 use crate::targets;
 use crate::targets::VALUE_LEN;
 use crate::targets::targets_in;
@@ -19,7 +19,7 @@ const LONGEST: usize = 65_535;
 // Where the value begins in the argument of the writer, after a buffer's length and the byte that fills it.
 const VALUE_AT: usize = 3;
 
-// Whether the op is one of these, and the argument is as long as one of its arguments.
+// Tests whether the op is one of these, and the argument is as long as one of its arguments.
 pub fn has_answer(op: u8, argument: &[u8]) -> bool {
     match op {
         30 => true,
@@ -28,7 +28,7 @@ pub fn has_answer(op: u8, argument: &[u8]) -> bool {
     }
 }
 
-// Puts what stands after the op in its line.
+// Puts what follows the op in its line.
 pub fn fields(out: &mut Text, taken: usize, op: u8, argument: &[u8]) -> usize {
     match op {
         30 => read(out, taken, argument),
@@ -36,7 +36,7 @@ pub fn fields(out: &mut Text, taken: usize, op: u8, argument: &[u8]) -> usize {
     }
 }
 
-// Op 30, on any bytes.
+// Answers op 30, on any bytes.
 fn read(out: &mut Text, taken: usize, bytes: &[u8]) -> usize {
     let read = read_targets(bytes);
     let outcome = read.outcome;
@@ -45,14 +45,14 @@ fn read(out: &mut Text, taken: usize, bytes: &[u8]) -> usize {
     targets::put(out, n, targets)
 }
 
-// Op 31: writes into a buffer of the length, and puts the answer and the buffer.
+// Answers op 31: writes into a buffer as long as the argument says, and puts the answer and the buffer.
 fn write(out: &mut Text, taken: usize, argument: &[u8]) -> usize {
     let fill = u8_at(argument, 2);
     let mut buffer: [u8; LONGEST] = [fill; LONGEST];
     write_in_front(out, taken, argument, &mut buffer)
 }
 
-// Writes into the front of the length of a buffer.
+// Writes into the front of a buffer, as many bytes of it as the argument says.
 fn write_in_front(out: &mut Text, taken: usize, argument: &[u8], buffer: &mut [u8]) -> usize {
     let end = min(u16_at(argument, 0) as usize, buffer.len());
     write_to(out, taken, rest(argument, VALUE_AT), &mut buffer[0..end])
@@ -65,7 +65,7 @@ fn write_to(out: &mut Text, taken: usize, value: &[u8], buffer: &mut [u8]) -> us
     line::bytes(out, n, buffer)
 }
 
-// The refusal, and the bytes written or needed.
+// Returns the refusal, and the bytes written or needed.
 fn returned(answer: WriteResult) -> Row {
     match answer {
         WriteResult::Ok(count) => [0, count as u64, 0, 0, 0, 0, 0],

@@ -1,4 +1,4 @@
-// Op 32: a script of calls on one parser, handed on from call to call. Each puts a line, and a closing line follows.
+// Op 32: a script of calls on one parser, handed on from call to call. Each call puts a line; a closing line follows.
 use crate::targets;
 use ld2450::no_targets;
 use ld2450_parser::FedSlice;
@@ -64,7 +64,7 @@ fn cleared(parser: Parser) -> FedSlice {
     }
 }
 
-// Puts the line of a call: the bytes taken, whether a frame is there, and its targets.
+// Puts the line of a call: the bytes taken, whether there is a frame, and its targets.
 fn answered(out: &mut Text, taken: usize, op: u8, call: Taken) -> usize {
     let frame = call.frame;
     let targets = frame.targets;
@@ -82,7 +82,7 @@ fn closing(out: &mut Text, taken: usize, op: u8, parser: Parser) -> usize {
     line::end(out, n)
 }
 
-// The counters, and the length of the frame in progress.
+// Returns the counters, and the length of the frame in progress.
 fn counters(parser: Parser) -> Row {
     let stats = parser.stats();
     let unfinished = parser.unfinished();

@@ -7,7 +7,7 @@ use replay_io::argument::u16_at;
 use replay_io::line;
 use replay_io::line::Text;
 
-// Bytes of a target's value: whether it is there, then four numbers of two bytes.
+// Bytes of a target's value: whether it is present, then four numbers of two bytes.
 const ENTRY_LEN: usize = 9;
 
 // Bytes of the value of three targets.
@@ -20,7 +20,7 @@ pub fn put(out: &mut Text, taken: usize, targets: [Target; TARGETS]) -> usize {
     target(out, n, targets[2])
 }
 
-// Puts one: whether it is there, then its fields.
+// Puts one target: whether it is present, then its fields.
 fn target(out: &mut Text, taken: usize, t: Target) -> usize {
     let n = line::number(out, taken, t.present as u64);
     let n = line::signed(out, n, t.x);
@@ -29,7 +29,7 @@ fn target(out: &mut Text, taken: usize, t: Target) -> usize {
     line::number(out, n, t.resolution as u64)
 }
 
-// The three targets that a value is.
+// Reads the three targets in a value.
 pub fn targets_in(value: &[u8]) -> [Target; TARGETS] {
     [
         target_in(value),
@@ -38,7 +38,7 @@ pub fn targets_in(value: &[u8]) -> [Target; TARGETS] {
     ]
 }
 
-// The target that its nine bytes are.
+// Reads the target in its nine bytes.
 fn target_in(value: &[u8]) -> Target {
     Target {
         present: flag_at(value, 0),
@@ -49,7 +49,7 @@ fn target_in(value: &[u8]) -> Target {
     }
 }
 
-// The number that two bytes are in two's complement: with the top bit set it is below 0, and counts down from -1.
+// Reads the two-byte number in two's complement: with the top bit set it is below 0, and counts down from -1.
 fn i16_at(value: &[u8], at: usize) -> i16 {
     let bits = u16_at(value, at);
     if bits < 0x8000 {

@@ -11,7 +11,7 @@ use replay_io::input::nothing_read;
 use replay_io::line;
 use replay_io::line::Text;
 
-// Puts the answer to a case: the lines of a script, or that the op is not in the table.
+// Puts the answer to a case: the lines of a script, or `none` if the op is not in the table.
 fn answer(out: &mut Text, taken: usize, case: &[u8]) -> usize {
     let op = u8_at(case, 0);
     if op == 20 {

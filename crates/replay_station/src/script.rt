@@ -1,4 +1,4 @@
-// A station script: a row of events on one session, from closed. Each puts a line, at whose end the session stands.
+// A station script: a row of events on one session, from closed. Each event puts a line, which ends with the session.
 use ld2410::Frame;
 use ld2410::MaybeU16;
 use ld2410::ReceiveResult;
@@ -19,7 +19,7 @@ ghost use lib.ListN.{length};
 // The longest buffer that a command is sent into.
 const LONGEST: usize = 255;
 
-// Where the session stands after an event, and how many bytes of the output are taken.
+// The session after an event, and how many bytes of the output are taken.
 struct Told {
     session: Session,
     taken: usize,
@@ -45,7 +45,7 @@ pub fn run(out: &mut Text, taken: usize, op: u8, script: &[u8]) -> usize {
     }
 }
 
-// Bytes of the first event of a script; 0 where there is none, or not all of it, or its command is none.
+// Returns the length of a script's first event; 0 if there is none, or not all of it, or its command is none.
 fn event_size(script: &[u8]) -> usize
     ensures inside { λ r. ⌜ r ≤ length (now (script .entry)) ⌝ }
 {
@@ -64,7 +64,7 @@ fn event_size(script: &[u8]) -> usize
     size
 }
 
-// Bytes of an event that sends a command: the six of the command, its buffer's length and what fills it.
+// Returns the length of a sending event: number, six bytes of the command, buffer length, fill. 0 for no command.
 fn send_size(six: &[u8]) -> usize {
     match command_in(six) {
         MaybeCommand::Some(_) => 9,
@@ -84,7 +84,7 @@ fn event(out: &mut Text, taken: usize, session: Session, bytes: &[u8]) -> Told {
     }
 }
 
-// Sends the command into a buffer of its length.
+// Sends the command into a buffer as long as the event says.
 fn send(out: &mut Text, taken: usize, session: Session, bytes: &[u8]) -> Told {
     let fill = u8_at(bytes, 8);
     let mut buffer: [u8; LONGEST] = [fill; LONGEST];
@@ -113,7 +113,7 @@ fn send_into(
     }
 }
 
-// The refusal, and the bytes written or needed.
+// Returns the refusal, and the bytes written or needed.
 fn returned(answer: SendResult) -> Row {
     match answer {
         SendResult::Ok(n) => [0, n as u64, 0, 0, 0, 0, 0],
@@ -140,7 +140,7 @@ fn ended_by(answer: ReceiveResult) -> Row {
     }
 }
 
-// Ends the line of an event: where the session stands, and the word that it awaits.
+// Ends the line of an event: the session's state, and the word that it awaits.
 fn ended(out: &mut Text, told: Told) -> usize {
     let session = told.session;
     let n = line::number(out, told.taken, state_of(session));
@@ -148,7 +148,7 @@ fn ended(out: &mut Text, told: Told) -> usize {
     line::end(out, n)
 }
 
-// The number of a state.
+// Returns the number of a state.
 fn state_of(session: Session) -> u64 {
     match session {
         Session::Closed => 0,
@@ -159,7 +159,7 @@ fn state_of(session: Session) -> u64 {
     }
 }
 
-// The awaited word, 0 where none is.
+// Returns the awaited word, 0 if there is none.
 fn word_of(session: Session) -> u64 {
     match session.awaited() {
         MaybeU16::Some(word) => word as u64,

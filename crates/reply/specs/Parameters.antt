@@ -1,8 +1,13 @@
--- The reply that tells the parameters, of document 01, point 3: what its payload holds, the reply, the value that is
--- all 0, the answer for an outcome and a value, and the number and the values that an answer returns.
---   gatesIn p, stationaryAt p, secondsAt p   of a parameters payload p: how many gates, and where its parts start
---   parametersFits, parametersOf, parametersReply, noParameters, parametersAs, returnedParameters
---   validGates v      how many gates the parameters v have, at most 9
+-- The reply `parameters`: document 01, point 3.
+--   gatesIn p              how many gates the payload p announces
+--   stationaryAt p, secondsAt p   where its stationary sensitivities and its seconds start
+--   parametersFits p       whether the payload p is readable
+--   parametersOf p         the value that the payload p holds
+--   parametersReply        the reply
+--   noParameters           every field 0
+--   parametersAs o v       the answer for the outcome o: the value v, or the refusal with every field 0
+--   returnedParameters r   what the answer r returns: the number and the value
+--   validGates v           how many gates the value v has, at most 9
 use mathlib.Core.List.{List}
 use mathlib.Core.Bool.{Bool, _&&_}
 use Prim.Native.Nat.{ℕ, _+_, min}
@@ -28,7 +33,7 @@ stationaryAt p = 4 + gatesIn p
 abbrev pub secondsAt : List ℕ → ℕ
 secondsAt p = stationaryAt p + gatesIn p
 
--- Where the seconds are there, so is all that stands before them.
+-- If the payload has the seconds, it has all that comes before them.
 abbrev pub parametersFits : List ℕ → Bool
 parametersFits p = leb (secondsAt p + 2) (length p) && (eqb (getD p 0 0) 0xAA && leb (getD p 1 0) 8)
 

@@ -1,7 +1,7 @@
--- The head of a parameters payload: the four bytes that it begins with.
---   headFits p     they are there, the first is AA, and the highest gate is 0 to 8
---   headOf p       the three after the first
---   headIn p       the three after the first, if the four fit
+-- The head of a parameters payload: its first four bytes.
+--   headFits p   whether p has them, the first is AA, and the highest gate is 0 to 8
+--   headOf p     the three bytes after the first
+--   headIn p     the same, if the head fits
 use mathlib.Core.List.{List}
 use mathlib.Core.Bool.{Bool, cond, _&&_}
 use Prim.Native.Nat.{ℕ}

@@ -1,9 +1,9 @@
--- Three of the four replies of document 01, point 3; Parameters.antt has the fourth. Of each: what its payload
--- holds (Of), the reply, the value that is all 0 (no), the answer for an outcome and a value (As; every field 0 beside
--- a refusal), and the number and the values that an answer returns (returned).
---   enableConfigOf, enableConfigReply, noEnableConfig, enableConfigAs, returnedEnableConfig
---   firmwareOf, firmwareReply, noFirmware, firmwareAs, returnedFirmware
---   macOf, macReply, noMac, macAs, returnedMac
+-- Three of the four replies of document 01, point 3; Parameters.antt has the fourth. For each, in this order: the value
+-- that a payload p holds, the reply, the value with every field 0, the answer for an outcome o and a value v, and what
+-- the answer r returns, with every field 0 beside a refusal.
+--   enableConfigOf p, enableConfigReply, noEnableConfig, enableConfigAs o v, returnedEnableConfig r
+--   firmwareOf p, firmwareReply, noFirmware, firmwareAs o v, returnedFirmware r
+--   macOf p, macReply, noMac, macAs o v, returnedMac r
 use mathlib.Core.List.{List}
 use Prim.Native.Nat.{ℕ}
 use lib.ListN.{take, drop, replicate}

@@ -1,9 +1,9 @@
--- A payload read as a reply: what every reply has in common.
---   judged same ok readable   the outcome by three tests: the word is the awaited one, `ok` is on, the payload is
---                       readable
---   Reply A             a reply: the word of its command, which payloads are readable, and what these hold
---   sized w n value     the reply to the word w in n bytes, which hold `value`
---   readAs answer r p   the payload p read as the reply r; `answer` makes the code's answer of an outcome and a value
+-- What every reply has in common: how a payload is read as one.
+--   judged same ok readable   the outcome of three tests: the word is awaited, `ok` is on, the payload is readable
+--   Reply A             a reply: the word of its command, which payloads are readable, and the value that these hold
+--   sized w n value     the reply to the word w that needs n bytes, read by `value`
+--   readAs answer r p   the answer to the payload p, read as the reply r; `answer` makes the code's answer of an
+--                       outcome and a value
 use mathlib.Core.List.{List}
 use mathlib.Core.Bool.{Bool, true, false}
 use Prim.Native.Nat.{ℕ}
@@ -25,7 +25,7 @@ pub record Reply (A : Type 0) : Type 0 where
   pub readable : List ℕ → Bool
   pub value : List ℕ → A
 
--- "replies ignore surplus payload"
+-- "Replies ignore surplus payload."
 abbrev pub sized : {A : Type 0} → ℕ → ℕ → (List ℕ → A) → Reply A
 sized w n value = record { word = w; readable = λ p. leb n (length p); value = value }
 

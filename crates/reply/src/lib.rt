@@ -1,5 +1,5 @@
-// What an acknowledgement's payload holds, by the command that it answers: reading three of the four replies. The
-// module `parameters` has the fourth.
+// The replies that an acknowledgement's payload holds, by the command that it answers. Three of the four are read here,
+// the fourth in parameters.rt.
 mod parameters;
 mod parameters_head;
 
@@ -23,7 +23,7 @@ ghost use Rattle.reply.specs.Replies.{enableConfigReply, enableConfigAs}
 ghost use Rattle.reply.specs.Replies.{firmwareReply, firmwareAs};
 ghost use Rattle.reply.specs.Replies.{macReply, macAs, noMac};
 
-// What the command `ENABLE_CONFIG` returns.
+// The reply to the command `ENABLE_CONFIG`.
 pub struct EnableConfig {
     pub protocol_version: u16,
     // The size of the module's receive buffer, in bytes.
@@ -35,7 +35,7 @@ pub enum EnableConfigResult {
     Err(Error),
 }
 
-// What the command `READ_FIRMWARE` returns.
+// The reply to the command `READ_FIRMWARE`.
 pub struct FirmwareVersion {
     // 0000 on the LD2410, 0100 on the LD2410C.
     pub firmware_type: u16,
@@ -50,10 +50,10 @@ pub enum FirmwareVersionResult {
     Err(Error),
 }
 
-// What the command `READ_MAC` returns: six address bytes in transmission order.
+// The reply to the command `READ_MAC`: six address bytes in transmission order.
 pub struct Mac(pub [u8; 6]);
 
-// The address is all 0 beside a refusal.
+// The address; beside a refusal it is all 0.
 pub struct MacResult {
     pub outcome: Outcome,
     pub mac: Mac,
@@ -95,7 +95,7 @@ pub fn read_firmware_version(payload: &[u8]) -> FirmwareVersionResult
     })
 }
 
-// The refusal, with every byte of the address 0.
+// Returns the refusal, with every byte of the address 0.
 pub fn refused_mac(error: Error) -> MacResult
     ensures made { λ r. ⌜ r ≡ macAs (Outcome.Err error) noMac ⌝ }
 {
@@ -105,7 +105,7 @@ pub fn refused_mac(error: Error) -> MacResult
     }
 }
 
-// Reads a payload that answers `READ_MAC`: where its sixth byte is there, the six are.
+// Reads a payload that answers `READ_MAC`: if its sixth byte is present, all six are.
 pub fn read_mac(payload: &[u8]) -> MacResult
     ensures read { λ r. ⌜ r ≡ readAs macAs macReply (now (payload .entry)) ⌝ }
 {

@@ -1,4 +1,4 @@
-// The reply that tells the parameters: reading it, and its accessors.
+// The reply with the parameters: reading it, and its accessors.
 use crate::parameters_head::MaybeParametersHead;
 use crate::parameters_head::ParametersHead;
 use refusal::Error;
@@ -16,30 +16,30 @@ ghost use Rattle.refusal.specs.declared.Outcome.the-variants as Outcome;
 ghost use Rattle.reply.specs.Reply.{readAs};
 ghost use Rattle.reply.specs.Parameters.{parametersReply, parametersAs, noParameters, validGates};
 
-// Parameters payload: where the moving sensitivities start.
+// Where the moving sensitivities start in a parameters payload.
 const MOVING_AT: usize = 4;
 
-// What the command `READ_PARAMETERS` returns.
+// The reply to the command `READ_PARAMETERS`.
 pub struct Parameters {
     // The highest gate that the module has.
     pub max_gate: u8,
     // The configured farthest gates.
     pub max_moving_gate: u8,
     pub max_stationary_gate: u8,
-    // By gate, gate 0 first; the first `gates()` are valid.
+    // Sensitivities by gate, gate 0 first; the first `gates()` are valid.
     pub moving_sensitivity: [u8; GATES],
     pub stationary_sensitivity: [u8; GATES],
     // How long the module waits, without a target, before it reports that no one is there.
     pub no_one_secs: u16,
 }
 
-// Every field of the parameters is 0 beside a refusal.
+// The parameters; beside a refusal every field of them is 0.
 pub struct ParametersResult {
     pub outcome: Outcome,
     pub parameters: Parameters,
 }
 
-// The refusal, with every field of the parameters 0.
+// Returns the refusal, with every field of the parameters 0.
 pub fn refused_parameters(error: Error) -> ParametersResult
     ensures made { λ r. ⌜ r ≡ parametersAs (Outcome.Err error) noParameters ⌝ }
 {
@@ -57,14 +57,14 @@ pub fn refused_parameters(error: Error) -> ParametersResult
 }
 
 impl Parameters {
-    // Number of gates: `max_gate` plus one, at most `GATES` whatever the field holds.
+    // Returns the number of gates: `max_gate` plus one, at most `GATES` whatever the field holds.
     pub fn gates(self) -> usize
         ensures counted { λ r. ⌜ r ≡ validGates self ⌝ }
     {
         min(self.max_gate as usize + 1, GATES)
     }
 
-    // Valid moving sensitivities, gate 0 first.
+    // Returns the valid moving sensitivities, gate 0 first.
     pub fn moving(self) -> GateValues
         ensures given { λ r. ⌜ r ≡ gateValues (self .«moving_sensitivity») (validGates self) ⌝ }
     {
@@ -72,7 +72,7 @@ impl Parameters {
         gate_values(sensitivities, self.gates())
     }
 
-    // Valid stationary sensitivities, gate 0 first.
+    // Returns the valid stationary sensitivities, gate 0 first.
     pub fn stationary(self) -> GateValues
         ensures given { λ r. ⌜ r ≡ gateValues (self .«stationary_sensitivity») (validGates self) ⌝ }
     {
@@ -81,7 +81,7 @@ impl Parameters {
     }
 }
 
-// Reads a payload that answers `READ_PARAMETERS`: where its seconds are there, so are the sensitivities before them.
+// Reads a payload that answers `READ_PARAMETERS`: if its seconds are present, so are the sensitivities before them.
 pub fn read_parameters(payload: &[u8]) -> ParametersResult
     ensures read { λ r. ⌜ r ≡ readAs parametersAs parametersReply (now (payload .entry)) ⌝ }
 {

@@ -15,15 +15,15 @@ pub struct ParametersHead {
     pub max_stationary_gate: u8,
 }
 
-// The same, if a parameters payload can begin so.
+// The head, if a parameters payload can begin with it.
 pub enum MaybeParametersHead {
     Some(ParametersHead),
     None,
 }
 
 impl ParametersHead {
-    // Reads the bytes that a parameters payload begins with. None where they are not all there, where the head is
-    // another byte, and where there are more than nine gates.
+    // Reads the head of a parameters payload. Returns none if a byte is missing, if the first byte is not AA, or if
+    // there are more than nine gates.
     pub(crate) fn read(payload: &[u8]) -> MaybeParametersHead
         ensures read { λ r. ⌜ r ≡ headIn (now (payload .entry)) ⌝ }
     {

@@ -1,6 +1,6 @@
 -- The nine basic bytes of a report.
---   basicOf b             the fields of the nine basic bytes in front of b
---   basicAt b             the fields of the nine basic bytes in front of b, if they are there
+--   basicOf b   the fields in the first nine bytes of b
+--   basicAt b   the same, if b has nine bytes
 use mathlib.Core.List.{List}
 use mathlib.Core.Bool.{cond}
 use Prim.Native.Nat.{ℕ}

@@ -1,11 +1,11 @@
 -- The reader's answer to report data, by the checks R1 to R8.
---   passing r               the answer where every check holds: the report r
---   failing o               the answer where o names the first that fails: every field of the report is 0
---   checkedAs o r           the answer by the first failed check o, if there is one
+--   passing r               the answer if every check holds: the report r
+--   failing o               the answer if o names the first check that fails: every field of the report is 0
+--   checkedAs o r           the answer by the first failed check o; the report r if none failed
 --   checkedReport s         the reader's answer to the data s
---   completedReport f t b   the same from R6 on: of the basic fields f, the type t, the bytes b after the basic ones
---   parsedReport s          the reader's answer, with the refusal that the check gives
---   returnedReport r        the number and the values that such an answer r returns
+--   completedReport f t b   the answer by R6 to R8 alone, for basic fields f, the type t and the bytes b after the nine
+--   parsedReport s          the reader's answer to the data s, with the refusal in place of the check
+--   returnedReport r        what the answer r returns: the number and the report
 use mathlib.Core.List.{List}
 use Prim.Native.Nat.{ℕ}
 use Rattle.refusal.specs.Refusal.{Returned, beside}

@@ -1,6 +1,6 @@
 -- Request 3: "Decode these three as states of their own, without any target .. Report reading .. follow".
---   Untargeted r      the report r tells no target
---   Calibrated s r    the request, of the report r that the data s are read as
+--   Untargeted r     the report r has no target
+--   Calibrated s r   if the state byte of the data s is one of the three, their report r has no target
 use mathlib.Core.Path.{_≡_}
 use mathlib.Core.Bool.{false}
 use mathlib.Core.List.{List}

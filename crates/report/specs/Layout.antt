@@ -1,10 +1,10 @@
 -- Report data: `data_type`, AA, nine bytes, an engineering block, 55, 00.
 --   dataType s        the type of the data s
---   body s            what stands in s between AA and the last two bytes
---   block s           what stands there after the nine basic bytes
+--   body s            the bytes of s between AA and the last two
+--   block s           the bytes of the body after the nine basic ones
 --   stateIn s         the state byte, the first of the nine
---   isEngineering t   the type t is that of an engineering report
---   layoutOf s        the type and the basic bytes of the data s
+--   isEngineering t   t is the type of an engineering report
+--   layoutOf s        the type and the basic fields of the data s
 use mathlib.Core.List.{List}
 use mathlib.Core.Bool.{Bool}
 use Prim.Native.Nat.{ℕ, _-_}

@@ -1,11 +1,11 @@
--- The checks R1 to R8 of report data, in document 01's order, and the answer of the reader of the first five.
---   r1 .. r8 s              the checks, of the data s
+-- The checks R1 to R8 of report data, in document 01's order, and the answer of a reader that makes the first five.
+--   r1, r2, r3, r4, r5, r6, r7, r8   the tests of the checks R1 to R8 on data
 --   knownType t, nothingAfter t b, blockFits t b   R6 to R8, of the type t and the bytes b after the basic ones
---   reportChecks            R1 to R8, in this order
---   layoutChecks            R1 to R5, in this order
---   layoutAs o e            the answer by the first failed check o, if there is one
---   failedIn k              the check that failed first by the answer k, if one did
---   checkedLayout s         the reader's answer to the data s, by R1 to R5
+--   reportChecks      R1 to R8, in this order
+--   layoutChecks      R1 to R5, in this order
+--   layoutAs o e      the answer by the first failed check o; the layout e if none failed
+--   failedIn k        the failed check in the answer k, if there is one
+--   checkedLayout s   the reader's answer to the data s, by R1 to R5
 use mathlib.Core.List.{List, [], _∷_}
 use mathlib.Core.Bool.{Bool, not, _||_}
 use Prim.Native.Nat.{ℕ, _-_}

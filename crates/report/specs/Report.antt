@@ -1,10 +1,10 @@
--- What report data that pass the checks are read as, and the targets that a report tells.
---   reportWith f flag e   the report of the basic fields f and the engineering part e
+-- The report that data which pass the checks are read as, and its targets.
+--   reportWith f flag e   the report with the basic fields f, the engineering flag and the engineering part e
 --   reportBy f t b        the report of the basic fields f, the type t and the bytes b after the basic ones
---   reportOf s            the report that data which pass the checks are read as
+--   reportOf s            the report that the data s are read as, if they pass the checks
 --   noReport              every field 0
---   targetIf there d e    the target at distance d with energy e, if it is there
---   movingTarget r, stationaryTarget r   the targets of the report r, where its state says that they are there
+--   targetIf there d e    the target at distance d with energy e, or none
+--   movingTarget r, stationaryTarget r   the targets of the report r, each if its state has it
 use mathlib.Core.List.{List}
 use mathlib.Core.Bool.{Bool, false, cond}
 use Prim.Native.Nat.{ℕ}

@@ -17,7 +17,7 @@ pub struct Basic {
     pub detection_distance_cm: u16,
 }
 
-// The basic bytes, if they are all there.
+// The basic bytes, if all are present.
 pub enum MaybeBasic {
     Some(Basic),
     None,

@@ -1,5 +1,5 @@
-// What a report's data are laid out in: a type, a fixed head byte, the body, a trailer. Reading it with the nine basic
-// bytes in front of the body, by the checks R1 to R5.
+// The layout of a report's data: a type, a fixed head byte, the body, a trailer. It is read by the checks R1 to R5,
+// together with the nine basic bytes in front of the body.
 use crate::basic::Basic;
 use crate::basic::MaybeBasic;
 use refusal::Check;
@@ -10,10 +10,10 @@ use wire::bytes_eq;
 ghost use mathlib.Core.Path.{_≡_};
 ghost use Rattle.report.specs.LayoutCheck.{checkedLayout, failedIn};
 
-// Report data: the fixed head byte after the data type.
+// The fixed head byte of report data, after the data type.
 pub const REPORT_HEAD: u8 = 0xAA;
 
-// Report data: the two bytes at the end.
+// The two bytes at the end of report data.
 pub const REPORT_TRAILER: [u8; 2] = [0x55, 0x00];
 
 // The type of report data, and their basic bytes.
@@ -22,14 +22,14 @@ pub struct Layout {
     pub basic: Basic,
 }
 
-// What reading the layout gives: its fields, or the first check that fails.
+// The fields of the layout, or the first check that fails.
 pub enum CheckedLayout {
     Ok(Layout),
     Failed(Check),
 }
 
 impl CheckedLayout {
-    // The check that failed first, if one did.
+    // Returns the check that failed first, if one did.
     pub(crate) fn failed(self) -> MaybeCheck
         ensures told { λ r. ⌜ r ≡ failedIn self ⌝ }
     {
@@ -54,7 +54,7 @@ impl Layout {
         if head != REPORT_HEAD {
             return CheckedLayout::Failed(Check::R2);
         }
-        // Where the fourth byte is there, two more are.
+        // If the fourth byte is present, two follow the head byte.
         let MaybeU8::Some(_) = byte_at(data, 3) else {
             return CheckedLayout::Failed(Check::R3);
         };

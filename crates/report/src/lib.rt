@@ -1,6 +1,6 @@
-// Reports of the LD2410: reading them from a report frame's data, and the targets that they tell.
+// Reports of the LD2410: reading them from a report frame's data, and their targets.
 //
-// `Option<Engineering>` of the Rust is a flag beside the block, whose fields are all 0 where the flag is off.
+// The Rust's `Option<Engineering>` is here a flag beside the block. With the flag off, every field of the block is 0.
 mod basic;
 mod layout;
 mod targets;
@@ -40,13 +40,13 @@ pub struct Target {
     pub energy: u8,
 }
 
-// A target, if it is there.
+// A target, if there is one.
 pub enum MaybeTarget {
     Some(Target),
     None,
 }
 
-// One periodic report from the module. `engineering` is all 0 where `has_engineering` is off.
+// One periodic report from the module. `engineering` is all 0 if `has_engineering` is off.
 pub struct Report {
     pub moving_distance_cm: u16,
     pub stationary_distance_cm: u16,
@@ -58,20 +58,20 @@ pub struct Report {
     pub engineering: Engineering,
 }
 
-// What reading a report's data gives: the report; or the first check that fails, beside a report that is all 0.
+// The report that data are read as; or the first check that fails, beside a report that is all 0.
 pub struct CheckedReport {
     pub failed: MaybeCheck,
     pub report: Report,
 }
 
-// The same, with the refusal that the check gives.
+// The same, with the refusal that the check gives instead of the check.
 pub struct ReportResult {
     pub outcome: Outcome,
     pub report: Report,
 }
 
 impl CheckedReport {
-    // Every check holds.
+    // Returns the report: every check holds.
     fn passing(report: Report) -> Self
         ensures made { λ r. ⌜ r ≡ passing report ⌝ }
     {
@@ -81,7 +81,7 @@ impl CheckedReport {
         }
     }
 
-    // `failed` names the first check that fails.
+    // Returns the first check that fails, beside a report that is all 0.
     fn failing(failed: MaybeCheck) -> Self
         ensures made { λ r. ⌜ r ≡ failing failed ⌝ }
     {
@@ -102,7 +102,7 @@ impl CheckedReport {
         }
     }
 
-    // The same of an engineering report: check R8.
+    // Completes an engineering report: check R8.
     fn with_block(basic: Basic, block: &[u8]) -> Self
         ensures checked { λ r. ⌜ r ≡ completedReport basic 0x01 (now (block .entry)) ⌝ }
     {
@@ -115,7 +115,7 @@ impl CheckedReport {
         CheckedReport::passing(Report::made(basic, true, engineering))
     }
 
-    // The same of a basic report: check R7.
+    // Completes a basic report: check R7.
     fn without_block(basic: Basic, block: &[u8]) -> Self
         ensures checked { λ r. ⌜ r ≡ completedReport basic 0x02 (now (block .entry)) ⌝ }
     {
@@ -127,7 +127,7 @@ impl CheckedReport {
 }
 
 impl Report {
-    // The report of the basic fields, with an engineering part or with one that is all 0.
+    // Makes the report of the basic fields, with an engineering block or with one that is all 0.
     fn made(basic: Basic, has_engineering: bool, engineering: Engineering) -> Self
         ensures made { λ r. ⌜ r ≡ reportWith basic «has_engineering» engineering ⌝ }
     {
@@ -143,7 +143,7 @@ impl Report {
         }
     }
 
-    // Reads the data of a report frame. Refused with 2 where R6 is the first check that fails, with 1 where another is.
+    // Reads the data of a report frame. Refuses with 2 if R6 is the first check that fails, with 1 if another is.
     pub fn parse(data: &[u8]) -> ReportResult
         ensures parsed { λ r. ⌜ r ≡ parsedReport (now («data» .entry)) ⌝ }
         ensures causes { λ r. ⌜ Causes noReport reportChecks (now («data» .entry)) (returnedReport r) ⌝ }
@@ -172,7 +172,7 @@ pub fn checked_report(data: &[u8]) -> CheckedReport
     CheckedReport::completed(basic, layout.data_type, &data[BLOCK_AT..end])
 }
 
-// A report whose fields are all 0: what stands beside a refusal, or where a frame holds no report.
+// Returns a report whose fields are all 0, for a refusal or a frame that holds no report.
 pub fn no_report() -> Report
     ensures zero { λ r. ⌜ r ≡ noReport ⌝ }
 {

@@ -1,4 +1,4 @@
-// What a report tells: its targets, and whether it came from engineering mode.
+// The accessors of a report: its targets, and whether it came from engineering mode.
 use super::MaybeTarget;
 use super::Report;
 use super::Target;
@@ -7,7 +7,7 @@ ghost use Rattle.target_state.specs.State.{presentOf};
 ghost use Rattle.report.specs.Report.{movingTarget, stationaryTarget};
 
 impl Report {
-    // The moving target, where the state says that there is one.
+    // Returns the moving target, if the state says that there is one.
     pub fn moving(self) -> MaybeTarget
         ensures given { λ r. ⌜ r ≡ movingTarget self ⌝ }
     {
@@ -22,7 +22,7 @@ impl Report {
         }
     }
 
-    // The stationary target, where the state says that there is one.
+    // Returns the stationary target, if the state says that there is one.
     pub fn stationary(self) -> MaybeTarget
         ensures given { λ r. ⌜ r ≡ stationaryTarget self ⌝ }
     {
@@ -37,7 +37,7 @@ impl Report {
         }
     }
 
-    // Whether any target is present.
+    // Tests whether any target is present.
     pub fn present(self) -> bool
         ensures told { λ r. ⌜ r ≡ presentOf (self .state) ⌝ }
     {
@@ -45,7 +45,7 @@ impl Report {
         state.present()
     }
 
-    // Whether the report came from engineering mode.
+    // Tests whether the report came from engineering mode.
     pub fn is_engineering(self) -> bool
         ensures told { λ r. ⌜ r ≡ self .«has_engineering» ⌝ }
     {

@@ -1,4 +1,4 @@
--- The frame of a report: "report data are `data_type`, AA, nine bytes, an engineering block, 55, 00".
+-- The frame of a report: "Report data are `data_type`, AA, nine bytes .. an engineering block, 55, 00."
 --   typeOf flag          the type: 01 with an engineering block, 02 without
 --   basicBytes r         the nine basic bytes of the report r
 --   frontOf r            type, AA and the nine basic bytes
@@ -6,7 +6,7 @@
 --   movingEnergies e, stationaryEnergies e   the energies of each
 --   reservedBytes e      the reserved bytes
 --   engineeringBlock e   the engineering block
---   blockOf r            the engineering block of the report r, nothing where its flag is off
+--   blockOf r            the engineering block of the report r, nothing if its flag is off
 --   trailer              55, 00
 --   reportData r         the data
 --   reportFrame r        the frame
@@ -21,7 +21,7 @@ use Rattle.target_state.specs.State.{byteOf}
 use Rattle.engineering.specs.declared.Engineering.{Engineering}
 use Rattle.report.specs.declared.Report.{Report}
 
--- "R6 `data_type` is 01 or 02; R7 for 02, nothing after the nine; R8 for 01, the block fits"
+-- "R6 `data_type` is 01 or 02 .. R7 for 02, nothing after the nine; R8 for 01, the block fits"
 abbrev pub typeOf : Bool → ℕ
 typeOf flag = cond flag 0x01 0x02
 
@@ -36,7 +36,7 @@ basicBytes r =
 unfoldable pub frontOf : Report → List ℕ
 frontOf r = typeOf (r .«has_engineering») ∷ 0xAA ∷ basicBytes r
 
--- "The block is `max_moving_gate`, `max_stationary_gate`, that many plus one energies of each, then reserved bytes"
+-- "The block is `max_moving_gate`, `max_stationary_gate` .. that many plus one energies of each, then reserved bytes"
 abbrev pub highestGates : Engineering → List ℕ
 highestGates e = (e .«moving_gates» - 1) ∷ (e .«stationary_gates» - 1) ∷ []
 

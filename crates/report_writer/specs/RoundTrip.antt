@@ -1,5 +1,5 @@
--- Reports, written and read: refused is "a value that the reader can't give", and, request 3: "writing again
--- gives equal bytes for states 0 to 6 with at most eight reserved bytes".
+-- Reports, written and read. Refusal 6 is for "a value that the reader can't give"; request 3: "writing again gives
+-- equal bytes for states 0 to 6 with at most eight reserved bytes".
 --   holding r      the frame that holds the report r
 --   ReadAs f r     `Frame::parse` gives the report r for the string f
 --   reservedIn f   the reserved bytes in the frame f, none without an engineering block

@@ -1,10 +1,10 @@
 -- Which reports can be written: those that the reader can give, with at most eight reserved bytes.
---   allZero s          every entry of s is 0
---   counted a b n s    the count n is a to b, and every entry of s past the first n is 0
---   within a b k e     each count of energies of e is so within a to b, that of reserved bytes within 0 to k
---   writable r         with the flag of r on, its gate counts are 1 to 9 and `extra_len` is at most 8; with it off, all
---                      are 0
---   unrepresentable r  refusal 6, unless the report can be written
+--   allZero s           every entry of s is 0
+--   counted a b n s     the count n is a to b, and every entry of s after the first n is 0
+--   within a b k e      `counted` holds of both kinds of energies of e for a to b, and of its reserved bytes for 0 to k
+--   writable r          with the flag of r on, its gate counts are 1 to 9, `extra_len` is at most 8, and entries past
+--                       these counts are 0; with it off, every count and entry is 0
+--   unrepresentable r   refusal 6, unless the report r can be written
 use mathlib.Core.List.{List, [], _∷_}
 use mathlib.Core.Bool.{Bool, true, cond, _&&_}
 use mathlib.Core.Option.{Option}

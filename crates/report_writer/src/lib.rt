@@ -1,4 +1,4 @@
-// Writing report frames: every report that the reader gives, with at most eight reserved bytes, has its frame.
+// Writing report frames: it can write every report that the reader gives, with at most eight reserved bytes.
 //
 // What the reader cannot give is refused, so that reading what was written gives the report.
 mod report_data;
@@ -21,9 +21,9 @@ ghost use Rattle.report_writer.specs.Data.{reportFrame};
 ghost use Rattle.report_writer.specs.Writable.{writable, unrepresentable};
 ghost use Rattle.report_writer.specs.RoundTrip.{reports};
 
-// Writes the report's frame into the front of `out`, and answers the bytes written. Refuses with 6 a report that the
-// reader cannot give, or one of more than eight reserved bytes; then with 4 a buffer shorter than the frame. Bytes
-// after the frame stay, and a refused call changes none.
+// Writes the report's frame into the front of `out`, and returns the number of bytes written. Refuses with 6 a report
+// that the reader cannot give, or one with more than eight reserved bytes; then with 4 a buffer shorter than the frame.
+// Bytes after the frame stay, and a refused call changes none.
 pub fn write_report(out: &mut [u8], report: Report) -> WriteResult
     ensures told { λ r. ⌜ r ≡ writeResult (unrepresentable report) (reportFrame report) (length (now (out .entry))) ⌝ }
     ensures left { λ _. ⌜ now (out .exit) ≡ bufferAfter (unrepresentable report) (reportFrame report)

@@ -12,19 +12,19 @@ ghost use Rattle.writer.specs.Put.{putIn};
 ghost use Rattle.report_writer.specs.Writable.{writable};
 ghost use Rattle.report_writer.specs.Data.{typeOf, frontOf, blockOf, reportData};
 
-// Data type, head byte and the nine basic bytes: what stands in front of the engineering block.
+// Bytes before the engineering block: data type, head byte and the nine basic bytes.
 const FRONT_LEN: usize = 11;
 // Most data bytes of a report: the front, two counts, nine energies of each, eight reserved bytes, the two at the end.
 pub const MAX_REPORT: usize = 41;
 
-// The data type, by whether there is an engineering block.
+// Returns the data type, by whether there is an engineering block.
 fn data_type(has_engineering: bool) -> u8
     ensures typed { λ r. ⌜ r ≡ typeOf «has_engineering» ⌝ }
 {
     if has_engineering { 0x01 } else { 0x02 }
 }
 
-// What stands in front of the engineering block: type, head byte, nine basic bytes.
+// Returns the bytes before the engineering block: type, head byte, nine basic bytes.
 fn front(report: Report) -> [u8; FRONT_LEN]
     ensures made { λ r. ⌜ r ≡ frontOf report ⌝ }
 {
@@ -47,7 +47,7 @@ fn front(report: Report) -> [u8; FRONT_LEN]
     ]
 }
 
-// Puts the first entries of `s` at place `at`, as many as the count says, and answers where they end.
+// Puts the first `count` entries of `s` at place `at`, and returns where they end.
 fn put_first(data: &mut [u8], at: usize, s: &[u8], count: u8) -> usize
     requires inside { ⌜ count ≤ length (now s) ⌝ }
     requires room { ⌜ at + count ≤ length (now «data») ⌝ }
@@ -59,7 +59,7 @@ fn put_first(data: &mut [u8], at: usize, s: &[u8], count: u8) -> usize
     at + n
 }
 
-// Puts the engineering block after the front, if there is one, and answers where it ends.
+// Puts the engineering block after the front, if there is one, and returns where it ends.
 fn put_block(data: &mut [u8], report: Report) -> usize
     requires good { ⌜ writable report ≡ true ⌝ }
     requires room { ⌜ 41 ≤ length (now «data») ⌝ }
@@ -80,7 +80,7 @@ fn put_block(data: &mut [u8], report: Report) -> usize
     put_first(data, stationary_end, &reserved, e.extra_len)
 }
 
-// Encodes the report as its data at the front of an array, and answers how many bytes they are.
+// Encodes the report as its data at the front of an array, and returns how many bytes they are.
 pub(crate) fn encode_data(data: &mut [u8], report: Report) -> usize
     requires good { ⌜ writable report ≡ true ⌝ }
     requires room { ⌜ 41 ≤ length (now «data») ⌝ }

@@ -5,14 +5,14 @@ ghost use mathlib.Core.Path.{_≡_};
 ghost use lib.ListN.{drop};
 ghost use Rattle.report_writer.specs.Writable.{allZero, counted, within, writable};
 
-// Fewest gates of a kind that an engineering block reports.
+// Fewest moving, or stationary, gates that an engineering block reports.
 const MIN_GATES: u8 = 1;
-// Most gates of a kind that it reports.
+// Most moving, or stationary, gates that it reports.
 const MAX_GATES: u8 = 9;
 // Most reserved bytes that the reader keeps.
 const MAX_RESERVED: u8 = 8;
 
-// Whether the entries from a place on are all 0.
+// Tests whether the entries from a place on are all 0.
 fn zero_from(s: &[u8], from: usize) -> bool
     ensures tested { λ r. ⌜ r ≡ allZero (drop from (now (s .entry))) ⌝ }
 {
@@ -26,7 +26,7 @@ fn zero_from(s: &[u8], from: usize) -> bool
     true
 }
 
-// Whether the count is within two bounds, and the entries past it are all 0.
+// Tests whether the count is within two bounds, and the entries after it are all 0.
 fn is_counted(s: &[u8], count: u8, least: u8, most: u8) -> bool
     ensures tested { λ r. ⌜ r ≡ counted least most count (now (s .entry)) ⌝ }
 {
@@ -39,7 +39,7 @@ fn is_counted(s: &[u8], count: u8, least: u8, most: u8) -> bool
     zero_from(s, count as usize)
 }
 
-// Whether each count of energies is within two bounds, that of reserved bytes at most a third, and what is past them 0.
+// Tests whether each count of energies is `least` to `gates`, that of reserved bytes at most `extra`, and the rest 0.
 fn is_within(e: Engineering, least: u8, gates: u8, extra: u8) -> bool
     ensures tested { λ r. ⌜ r ≡ within least gates extra e ⌝ }
 {
@@ -55,7 +55,7 @@ fn is_within(e: Engineering, least: u8, gates: u8, extra: u8) -> bool
     is_counted(&x, e.extra_len, 0, extra)
 }
 
-// Whether the reader can give the report, with at most eight reserved bytes.
+// Tests whether the reader can give the report, with at most eight reserved bytes.
 pub(crate) fn is_writable(report: Report) -> bool
     ensures tested { λ r. ⌜ r ≡ writable report ⌝ }
 {

@@ -1,7 +1,7 @@
--- What a parser stands for, by the numbers of its scan: document 01, point 5.
---   OutOfRange limit c   "A parser built by hand with fields out of range (..)"
---   OrReset limit c r    the scan c is handled as r: "as if reset came first" where it is out of range, else as it is
---   pendingOf c buf      the bytes of the frame in progress that a scan in range stands for, with its data bytes in buf
+-- Which scans are out of range, and which bytes are pending: document 01, point 5.
+--   OutOfRange limit c   the scan c has "fields out of range"; `limit` is 54 there
+--   OrReset limit c r    the scan c is handled as r: "as if reset came first" if it is out of range, else as c itself
+--   pendingOf c buf      the pending bytes of a scan c in range, with its data bytes in buf; pendingIn, by its fields
 use mathlib.Core.Path.{_≡_}
 use mathlib.Core.Logic.{_≢_}
 use mathlib.Core.List.{List, [], _∷_, _++_}

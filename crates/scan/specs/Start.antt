@@ -1,9 +1,11 @@
 -- What the counters count, and a byte tried as the first of a header.
---   continued c st          the frame in progress goes on, at c
---   abandoned st n     the counters after a frame in progress of n bytes was given up
---   startOf st b       the byte b, tried as the first of a header
---   counted b st       the counters after a whole frame, by whether it decodes
---   takingOf s n       the step s as what was scanned, its byte the last of n
+--   continued c st   the step that leaves the scan c and the counters st, and ends no frame
+--   dropping st n    the counters after n more bytes were dropped
+--   abandoned st n   the counters after a broken start of n bytes
+--   startAs st m     the step of a byte that begins the header of the family m, or none
+--   startOf st b     the step of the byte b, tried as the first of a header
+--   counted b st     the counters after a whole frame; b says whether it decodes
+--   takingOf s n     the step s as the outcome of n bytes, its byte the last
 use mathlib.Core.Bool.{Bool, true, false}
 use Prim.Native.Nat.{ℕ}
 use Rattle.wire.specs.Counter.{bumped}
@@ -21,7 +23,6 @@ use Rattle.scan.specs.declared.stats.Scanned.{Scanned}
 abbrev pub continued : Scan → Stats → Stepped
 continued c st = record { scan = c; stats = st; ended = Nothing }
 
--- n bytes more were dropped
 abbrev pub dropping : Stats → ℕ → Stats
 dropping st n = record {
   frames = st .frames;

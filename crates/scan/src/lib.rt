@@ -1,7 +1,7 @@
 // Where in a frame the stream parser is.
 //
-// A scan is a few numbers; the data bytes of the frame in progress stand in a buffer that the caller lends. A scan that
-// has a number out of range is handled as if reset came first.
+// A scan is a few numbers; the data bytes of the frame in progress are in a buffer that the caller lends. A scan with a
+// number out of range is handled as if reset came first.
 mod stats;
 
 pub use stats::Ended;
@@ -28,7 +28,7 @@ pub enum State {
     Tail,
 }
 
-// The state with its numbers. Those without use in a state are 0.
+// The state with its numbers. Those that a state does not use are 0; in the tail `pos` is `len`.
 pub struct Scan {
     pub state: State,
     pub kind: Kind,
@@ -38,7 +38,7 @@ pub struct Scan {
 }
 
 impl Scan {
-    // Whether no field is out of range.
+    // Tests whether no field is out of range.
     fn well_formed(self) -> bool
         ensures told { λ r. ⌜ r ≡ wellFormed linkLimit self ⌝ }
     {
@@ -53,7 +53,7 @@ impl Scan {
     }
 }
 
-// A scan that looks for a header.
+// Returns a scan that looks for a header.
 pub fn hunting() -> Scan
     ensures made { λ r. ⌜ r ≡ hunting ⌝ }
 {
@@ -66,7 +66,7 @@ pub fn hunting() -> Scan
     }
 }
 
-// The scan, or, where a field is out of range, as if reset came first.
+// Returns the scan; if a field is out of range, the scan that a reset leaves.
 pub fn or_reset(scan: Scan) -> Scan
     ensures or_reset { λ r. ⌜ r ≡ orReset linkLimit scan ⌝ }
     ensures first { λ r. ⌜ OrReset linkLimit scan r ⌝ }
@@ -74,14 +74,14 @@ pub fn or_reset(scan: Scan) -> Scan
     if scan.well_formed() { scan } else { hunting() }
 }
 
-// How many bytes of a frame are in progress.
+// Returns how many bytes of a frame are in progress.
 pub fn unfinished(scan: Scan) -> usize
     ensures told { λ r. ⌜ r ≡ unfinishedBy linkLimit scan ⌝ }
 {
     progress(or_reset(scan))
 }
 
-// The same of a well-formed scan.
+// Returns the same for a well-formed scan.
 fn progress(scan: Scan) -> usize
     requires { ⌜ wellFormed linkLimit scan ≡ true ⌝ }
     ensures told { λ r. ⌜ r ≡ unfinishedAt scan ⌝ }

@@ -1,4 +1,4 @@
-// What the parser counts, and what a byte or a slice did: the scan and the counters that it left.
+// The parser's counters, and the outcome of a byte or a slice: the scan and the counters after it.
 use crate::Scan;
 use wire::Kind;
 
@@ -14,21 +14,21 @@ pub struct Stats {
     pub malformed: u64,
 }
 
-// Whether a byte ended a frame: its family and the length of its data, which stand at the front of the buffer.
+// Whether a byte ended a frame: its kind and the length of its data, which are at the front of the buffer.
 pub enum Ended {
     Frame(Kind, usize),
     Nothing,
 }
 
-// What a byte did, beside what it stored in the buffer.
+// The scan and the counters after a byte, beside the buffer, and whether it ended a frame.
 pub struct Stepped {
     pub scan: Scan,
     pub stats: Stats,
     pub ended: Ended,
 }
 
-// What a slice did, beside what it stored in the buffer: the scan and the counters that it left, whether it ended a
-// frame, and how many of its bytes were taken.
+// The scan and the counters after a slice, beside the buffer, whether it ended a frame, and how many of its bytes were
+// taken.
 pub struct Scanned {
     pub scan: Scan,
     pub stats: Stats,

@@ -1,15 +1,14 @@
--- What is claimed of a session: its calls are request 2's machine.
---   Called s e t r   a call on the session s, which is the event e, left t and answered r: as the machine moves, and in
---                    no other way
---   sessionCall      the calls of a session, as a machine: where each leaves it, and what it answers
---   RunsAs s es      the events es on the session s are a conversation of request 2's machine, and it has no other
---   AnyRun s         so are any events, in any number and order
---   AnySession       from any session, made by hand too
---   SendCauses s c n r   each number is returned exactly in its cause, where the command c is sent into n bytes
+-- What is claimed of a session: its calls move as request 2's machine does.
+--   Called s e t r       the event e on the session s left t, with the answer r: the machine moves so, and only so
+--   sessionCall          the calls of a session as a machine: the session that each leaves, and its answer
+--   RunsAs s es          the events es on the session s are a conversation of request 2's machine, which has no other
+--   AnyRun s             RunsAs holds for any events, in any number and order
+--   AnySession           AnyRun holds from any session, also one made by hand
+--   SendCauses s c n r   the answer r to the command c, sent into n bytes, has each number exactly in its cause
 --   OutsideRefused s m t r   in the session s the farthest gates m and t get 2 exactly if it is open and one is outside
---   FarthestSent s c r   request 7: so does the answer r to the command c, if it has farthest gates
---   Success c f      the frame f acknowledges the command c with success
---   OpensAndCloses s what `EnableConfig` opens from s, `EndConfig` closes: the claim is about something
+--   FarthestSent s c r   request 7: OutsideRefused, if the command c is a `SetMaxGates`
+--   Success c f          the frame f acknowledges the command c with success
+--   OpensAndCloses s     from s, a successful `EnableConfig` opens the session and a successful `EndConfig` closes it
 use mathlib.Core.Path.{_≡_}
 use mathlib.Core.Logic.{_≢_, _↔_, _⊎_}
 use mathlib.Core.List.{List, [], _∷_}
@@ -45,8 +44,7 @@ sessionCall s (frame f) = (receiveOf s f .session, received (receiveOf s f .answ
 sessionCall s give-up = (giveUpOf s, gave-up)
 sessionCall s ask = (s, awaiting (awaitedWord s))
 
--- Both fields are what `Called` and `SendCauses` are proved from, for one event, and `only` is what `OpensAndCloses` is
--- proved from, for four.
+-- `Called` and `SendCauses` are proved from both fields, for one event; `OpensAndCloses` from `only`, for two and four.
 pub record RunsAs (s : Session) (es : List Event) : Type 0 where
   -- "Any run of calls and frames answers as this machine does"
   pub run : Conversation s es (history sessionCall s es) (final sessionCall s es)
@@ -62,16 +60,16 @@ abbrev pub AnySession : Type 0
 AnySession = (s : Session) → AnyRun s
 
 pub record SendCauses (s : Session) (c : Command) (n : ℕ) (r : SendResult) : Type 0 where
-  -- a number but 0 is returned exactly in its cause, and beside it exactly what that cause says
+  -- a number other than 0 is returned exactly in its cause, with exactly what that cause says beside it
   pub refused : (q : Returned ℕ) → (returnedSend r ≡ q) × (q .number ≢ 0) ↔ Refuses s c n q
-  -- 0 is returned exactly if the command goes, its values are good and its frame fits
+  -- 0 is returned exactly if the command may be sent, its values are good and its frame fits
   pub accepted : returnedSend r .number ≡ 0 ↔ Sendable s c n
 
 -- "in the place where gates above 8 get it", so after 8 and 7
 abbrev pub OutsideRefused : Session → (moving stationary : ℕ) → SendResult → Type 0
 OutsideRefused s m t r = returnedSend r .number ≡ 2 ↔ (s ≡ Open) × (Outside m ⊎ Outside t)
 
--- Seconds are what two bytes hold.
+-- The seconds are a number of two bytes.
 abbrev pub FarthestSent : Session → Command → SendResult → Type 0
 FarthestSent s c r = (m t n : ℕ) → n ≤ 65535 → c ≡ SetMaxGates m t n → OutsideRefused s m t r
 

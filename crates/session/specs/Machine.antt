@@ -1,14 +1,15 @@
 -- Request 2 as a machine: a rule for each of its sentences, in its words, and the machine's runs.
---   Event              a command sent into a buffer, a frame of the module, giving up, or asking which word is awaited
---   Response           to a command: the number, the bytes needed and the bytes written, and the buffer left; to a
---                      frame: that it passed, or that it ended the wait, with `ok` on or off; to the question: the
---                      word, if one is awaited
+--   Event              a command sent into a buffer, a frame of the module, giving up, or asking for the awaited word
+--   Response           to a command: the number, the bytes needed and the bytes written, and the buffer afterwards; to
+--                      a frame: that it passed, or that it ended the wait, with `ok` on or off; to giving up: nothing;
+--                      to the question: the word, if one is awaited
 --   Awaits s w         in the session s a wait is on, and the acknowledgement of the word w ends it
 --   Idle s             no wait is on
---   Takes s c          the command c goes from the session s
---   Leads c t          where it leads
+--   Takes s c          the command c may be sent from the session s
+--   Leads c t          sending the command c leads to the session t
+--   numberAlone k      the refusal k, with every other field 0
 --   Refuses s c n r    the command c, for a buffer of n bytes, is refused in the session s, and r is returned
---   Sendable s c n     it goes, the module takes its values, and its frame fits
+--   Sendable s c n     the command c may be sent from s, the module takes its values, and its frame fits n bytes
 --   Ends s ok t        the awaited acknowledgement, with `ok` on or off, makes the session s the session t
 --   Moves s e t r      at the event e the machine goes from s to t and responds r
 --   Conversation s es rs t   the events es, one after another, lead from s to t, and the responses are rs
@@ -44,8 +45,8 @@ pub data Response : Type 0 where
   gave-up : Response
   awaiting : (w : MaybeU16) → Response
 
--- "waiting for a word": a session that waits has the command whose word it is; one that is opening waits for
--- `EnableConfig`'s, one that is closing for `EndConfig`'s
+-- "waiting for a word": a waiting session holds the command whose word it awaits; opening awaits the word of
+-- `EnableConfig`, closing that of `EndConfig`
 pub data Awaits : Session → ℕ → Type 0 where
   opening : Awaits Opening (wordOf EnableConfig)
   waiting : (c : Command) → Awaits (Waiting c) (wordOf c)
@@ -64,7 +65,7 @@ pub data Leads : Command → Session → Type 0 where
   to-opening : Leads EnableConfig Opening
   -- "`EndConfig` leads to closing"
   to-closing : Leads EndConfig Closing
-  -- any other command is waited for
+  -- after any other command the session waits
   to-waiting : (c : Command) → c ≢ EnableConfig → c ≢ EndConfig → Leads c (Waiting c)
 
 -- "Each new number .. is returned with the answer's other fields 0"
@@ -76,7 +77,7 @@ pub data Refuses : Session → Command → ℕ → Returned ℕ → Type 0 where
   busy : (s : Session) (c : Command) (n w : ℕ) → Awaits s w → Refuses s c n (numberAlone 8)
   -- "7, a command other than `EnableConfig` in a closed session"
   not-open : (c : Command) (n : ℕ) → c ≢ EnableConfig → Refuses Closed c n (numberAlone 7)
-  -- "both before 2 and 4": these are the encoder's, of a command that goes
+  -- "both before 2 and 4": the encoder gives these two, to a command that may be sent
   unsupported : (s : Session) (c : Command) (n : ℕ) → Takes s c → encodable c ≡ false → Refuses s c n (numberAlone 2)
   short : (s : Session) (c : Command) (n : ℕ) → Takes s c → encodable c ≡ true → n < length (commandFrame c)
       → Refuses s c n (record { number = 4; needed = length (commandFrame c); value = 0 })
@@ -95,7 +96,7 @@ pub data Ends : Session → Bool → Session → Type 0 where
   not-closed : Ends Closing false Open
   -- "a successful `Restart` closes"
   restarted : Ends (Waiting Restart) true Closed
-  -- "any other returns to open": a failed one, and a success of another command
+  -- "any other returns to open": a failed `Restart`, and any other command
   not-restarted : Ends (Waiting Restart) false Open
   other : (c : Command) (ok : Bool) → c ≢ Restart → Ends (Waiting c) ok Open
 
@@ -117,7 +118,7 @@ pub data Moves : Session → Event → Session → Response → Type 0 where
   gives-up : (s : Session) (w : ℕ) → Awaits s w → Moves s give-up Closed gave-up
   -- "giving up with no wait on changes nothing"
   stays : (s : Session) → Idle s → Moves s give-up s gave-up
-  -- the word is told, and nothing changes
+  -- a question of our own, not the request's: the answer is the awaited word, if any, and nothing changes
   awaits : (s : Session) (w : ℕ) → Awaits s w → Moves s ask s (awaiting (Word.Some w))
   idle : (s : Session) → Idle s → Moves s ask s (awaiting Word.None)
 

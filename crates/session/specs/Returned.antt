@@ -1,7 +1,7 @@
 -- What the answer to a command returns, by document 01's column "Returned" and request 2's new numbers.
 --   sessionNumber e   the number of the refusal e
---   sessionNeeded e   the bytes needed that stand beside 4; 0 beside every other number
---   returnedSend r    the number and the bytes written that the answer r returns
+--   sessionNeeded e   the bytes needed, which come with 4; 0 with every other number
+--   returnedSend r    what the answer r returns: the number, and the bytes needed or the bytes written
 use Prim.Native.Nat.{ℕ}
 use Rattle.refusal.specs.Refusal.{Returned, accepted, numberOf, neededOf}
 use Rattle.session.specs.declared.SessionError.{SessionError}

@@ -1,15 +1,22 @@
--- The calls of a session as functions, which the contracts equal. They need not be believed: that they move as request 2's
--- machine does, and that it leaves no choice, is the claim (Claims.antt).
---   awaitedWord s     the word that is awaited, if one is
---   isBusy s          a wait is on
---   needsOpen s c     the session s is closed, and the command c is another than `EnableConfig`
---   afterSending c    the session after the command c, sent
---   sendOf s c n      sending c into a buffer of n bytes; bufferOf s c out, the buffer that it leaves
---   isAwaited s f     the frame f is the awaited acknowledgement
---   afterSuccess c    the session after a success of the command c that was waited for
---   afterAck s ok     the session after the awaited acknowledgement
---   receiveOf s f     handing over the frame f
---   giveUpOf s        giving up
+-- The calls of a session as functions, which the contracts equal. Nobody needs to believe them: Claims.antt claims that
+-- they move as request 2's machine does (Machine.antt, in the request's words), and that it leaves no choice.
+--   awaitedWord s       the awaited word, if any; isSome w, whether there is one
+--   isBusy s            a wait is on
+--   isClosed s          the session s is closed
+--   needsOpen s c       s is closed, and the command c is not `EnableConfig`
+--   afterSending c      the session after sending c
+--   refusedBy e s       the outcome in the session s if e refuses
+--   sentAs r s c        the outcome of sending c if the encoder answered r
+--   encodedBy s c n     the outcome of sending c into n bytes, by the encoder alone
+--   sendOf s c n        the outcome of sending c into n bytes; bufferOf s c out, the buffer afterwards
+--   isAck k             the kind k is an acknowledgement
+--   isWord w v          v is the word w, if there is one
+--   isAwaited s f       the frame f is the awaited acknowledgement
+--   afterSuccess c      the session after the awaited success of c
+--   afterAck s ok       the session after the awaited acknowledgement
+--   receivedAs b s ok   the outcome of a frame; b says whether it was awaited
+--   receiveOf s f       the outcome of the frame f
+--   giveUpOf s          the session after giving up
 use mathlib.Core.List.{List}
 use mathlib.Core.Bool.{Bool, true, false, cond, not, _&&_}
 use Prim.Native.Nat.{ℕ}
@@ -57,11 +64,9 @@ isClosed Closing = false
 abbrev pub needsOpen : Session → Command → Bool
 needsOpen s c = isClosed s && not (eqb (wordOf c) 0x00FF)
 
--- "`EnableConfig` .. leads to opening", "`EndConfig` leads to closing"
 abbrev pub afterSending : Command → Session
 afterSending c = cond (eqb (wordOf c) 0x00FF) Opening (cond (eqb (wordOf c) 0x00FE) Closing (Waiting c))
 
--- "A refused command leaves the session where it was"
 abbrev pub refusedBy : SessionError → Session → Sent
 refusedBy e s = record { session = s; answer = Send.Err e }
 
@@ -91,12 +96,10 @@ isWord Word.None v = false
 abbrev pub isAwaited : Session → Frame → Bool
 isAwaited s f = isAck (f .kind) && isWord (awaitedWord s) (f .ack .word)
 
--- "a successful `Restart` closes, any other returns to open"
 abbrev pub afterSuccess : Command → Session
 afterSuccess c = cond (eqb (wordOf c) 0x00A3) Closed Open
 
--- "opening becomes open on success (`ok` on) and closed on failure, closing becomes closed on success and open on
--- failure"; without a wait there is no awaited acknowledgement
+-- without a wait there is no awaited acknowledgement
 abbrev pub afterAck : Session → Bool → Session
 afterAck Closed ok = Closed
 afterAck Opening ok = cond ok Open Closed
@@ -104,7 +107,6 @@ afterAck Open ok = Open
 afterAck (Waiting c) ok = cond ok (afterSuccess c) Open
 afterAck Closing ok = cond ok Closed Open
 
--- "The awaited ACK ends the wait", "Other ACKs and reports pass through and change nothing"
 abbrev pub receivedAs : Bool → Session → Bool → Received
 receivedAs true s ok = record { session = afterAck s ok; answer = Receive.Ended ok }
 receivedAs false s ok = record { session = s; answer = Receive.Passed }
@@ -112,6 +114,5 @@ receivedAs false s ok = record { session = s; answer = Receive.Passed }
 unfoldable pub receiveOf : Session → Frame → Received
 receiveOf s f = receivedAs (isAwaited s f) s (f .ack .ok)
 
--- "The station may give up a wait, which closes the session; giving up with no wait on changes nothing"
 unfoldable pub giveUpOf : Session → Session
 giveUpOf s = cond (isBusy s) Closed s

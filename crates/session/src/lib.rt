@@ -1,4 +1,4 @@
-// One conversation at a time: a session, which hands over one command and tells when it is acknowledged.
+// A session, one conversation with the module: it hands over one command at a time, and says when it is acknowledged.
 //
 // A session is taken and returned by value: it holds the command that it waits for, and the toolchain has no reference
 // to an enum that holds a value.
@@ -18,7 +18,7 @@ ghost use Rattle.session.specs.Machine.{give-up, gave-up, ask, awaiting}
 ghost use Rattle.session.specs.Claims.{Called, AnyRun, AnySession, OpensAndCloses};
 ghost use Rattle.session.specs.declared.Session.the-variants as Session;
 
-// Where the conversation stands. One that waits has the command whose acknowledgement it waits for.
+// The state of the conversation. `Waiting` has the command whose acknowledgement it waits for.
 pub enum Session {
     Closed,
     Opening,
@@ -27,7 +27,7 @@ pub enum Session {
     Closing,
 }
 
-// Why a command is not sent.
+// The reasons why a command is not sent.
 pub enum SessionError {
     // 7: a command other than `EnableConfig` in a closed session.
     NotOpen,
@@ -37,32 +37,32 @@ pub enum SessionError {
     Encoding(Error),
 }
 
-// How many bytes of the buffer are the command's frame, or why it is not sent.
+// The number of bytes of the command's frame in the buffer, or why it is not sent.
 pub enum SendResult {
     Ok(usize),
     Err(SessionError),
 }
 
-// The session that a command leaves, and the answer.
+// The session after a command, and the answer.
 pub struct Sent {
     pub session: Session,
     pub answer: SendResult,
 }
 
-// What a frame did: it passed through, or it ended the wait, with `ok` on or off.
+// The effect of a frame: it passed through, or it ended the wait, with `ok` on or off.
 pub enum ReceiveResult {
     Passed,
     Ended(bool),
 }
 
-// The session that a frame leaves, and the answer.
+// The session after a frame, and the answer.
 pub struct Received {
     pub session: Session,
     pub answer: ReceiveResult,
 }
 
 impl SessionError {
-    // The refusal's number: 7, 8, or the encoder's.
+    // Returns the refusal's number: 7, 8, or the encoder's.
     pub fn number(self) -> u8
         ensures numbered { λ r. ⌜ r ≡ sessionNumber self ⌝ }
     {
@@ -73,7 +73,7 @@ impl SessionError {
         }
     }
 
-    // The bytes needed, with number 4; else 0.
+    // Returns the bytes needed, with number 4; else 0.
     pub fn needed(self) -> usize
         ensures told { λ r. ⌜ r ≡ sessionNeeded self ⌝ }
     {
@@ -86,7 +86,7 @@ impl SessionError {
 }
 
 impl Session {
-    // A closed session. Any run of calls and frames from it answers as the machine of request 2 does (specs/Machine.antt).
+    // Returns a closed session, which answers any calls and frames as request 2's machine does (specs/Machine.antt).
     pub fn new() -> Self
         ensures made { λ r. ⌜ r ≡ Session.Closed ⌝ }
         ensures runs { λ r. ⌜ AnyRun r ⌝ }
@@ -96,7 +96,7 @@ impl Session {
         Session::Closed
     }
 
-    // The word whose acknowledgement ends the wait, if one is awaited.
+    // Returns the word whose acknowledgement ends the wait, if one is awaited.
     pub fn awaited(self) -> MaybeU16
         ensures told { λ r. ⌜ r ≡ awaitedWord self ⌝ }
         ensures called { λ r. ⌜ Called self ask self (awaiting r) ⌝ }
@@ -110,7 +110,7 @@ impl Session {
         }
     }
 
-    // Whether a word is awaited.
+    // Tests whether a word is awaited.
     pub(crate) fn is_busy(self) -> bool
         ensures tested { λ r. ⌜ r ≡ isBusy self ⌝ }
     {
@@ -120,7 +120,7 @@ impl Session {
         }
     }
 
-    // Gives up a wait, which closes the session; with no wait on nothing changes.
+    // Gives up a wait, which closes the session; without a wait nothing changes.
     pub fn give_up(self) -> Self
         ensures told { λ r. ⌜ r ≡ giveUpOf self ⌝ }
         ensures called { λ r. ⌜ Called self give-up r gave-up ⌝ }
@@ -132,7 +132,7 @@ impl Session {
     }
 }
 
-// Whether a command has the word.
+// Tests whether a command has the word.
 pub(crate) fn has_word(command: Command, word: u16) -> bool
     ensures tested { λ r. ⌜ r ≡ eqb (wordOf command) word ⌝ }
 {

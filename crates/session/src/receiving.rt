@@ -1,4 +1,4 @@
-// Handing over a frame: whether it ends the wait, and where that leads.
+// Handing over a frame: whether it ends the wait, and the session after it.
 use super::ReceiveResult;
 use super::Received;
 use super::Session;
@@ -34,7 +34,7 @@ impl Session {
         }
     }
 
-    // Whether a frame is the awaited acknowledgement.
+    // Tests whether a frame is the awaited acknowledgement.
     fn is_awaited(self, frame: Frame) -> bool
         ensures tested { λ r. ⌜ r ≡ isAwaited self frame ⌝ }
     {
@@ -43,7 +43,7 @@ impl Session {
         is_ack(kind) && self.awaits(ack.word)
     }
 
-    // Whether the word is awaited.
+    // Tests whether the word is awaited.
     fn awaits(self, word: u16) -> bool
         ensures tested { λ r. ⌜ r ≡ isWord (awaitedWord self) word ⌝ }
     {
@@ -53,7 +53,7 @@ impl Session {
         }
     }
 
-    // The session after the awaited acknowledgement.
+    // Returns the session after the awaited acknowledgement.
     fn acknowledged(self, ok: bool) -> Self
         ensures told { λ r. ⌜ r ≡ afterAck self ok ⌝ }
     {
@@ -70,7 +70,7 @@ impl Session {
         }
     }
 
-    // The session after a success of the command that was waited for.
+    // Returns the session after a success of the awaited command.
     fn after_success(command: Command) -> Self
         ensures told { λ r. ⌜ r ≡ afterSuccess command ⌝ }
     {
@@ -81,7 +81,7 @@ impl Session {
     }
 }
 
-// Whether a frame is an acknowledgement.
+// Tests whether a frame is an acknowledgement.
 fn is_ack(kind: FrameKind) -> bool
     ensures tested { λ r. ⌜ r ≡ isAck kind ⌝ }
 {

@@ -19,9 +19,9 @@ ghost use Rattle.session.specs.Machine.{sent};
 ghost use Rattle.session.specs.Claims.{Called, SendCauses, FarthestSent};
 
 impl Session {
-    // Sends a command: encodes it into the front of `out`, and answers the bytes written. Refuses with 8 while a word
-    // is awaited, then with 7 a command other than `EnableConfig` in a closed session, then as the encoder does. A
-    // refused command changes neither the session nor the buffer.
+    // Sends a command: encodes it into the front of `out`, and returns the number of bytes written. Refuses with 8
+    // while a word is awaited, then with 7 a command other than `EnableConfig` in a closed session, then as the encoder
+    // does. A refused command changes neither the session nor the buffer.
     pub fn send(self, command: Command, out: &mut [u8]) -> Sent
         ensures told { λ r. ⌜ r ≡ sendOf self command (length (now (out .entry))) ⌝ }
         ensures left { λ _. ⌜ now (out .exit) ≡ bufferOf self command (now (out .entry)) ⌝ }
@@ -39,14 +39,14 @@ impl Session {
         self.encoded(command, out)
     }
 
-    // Whether the session is closed, and the command is another than `EnableConfig`.
+    // Tests whether the session is closed, and the command is another than `EnableConfig`.
     fn needs_open(self, command: Command) -> bool
         ensures tested { λ r. ⌜ r ≡ needsOpen self command ⌝ }
     {
         self.is_closed() && !has_word(command, word::ENABLE_CONFIG)
     }
 
-    // Whether the session is closed.
+    // Tests whether the session is closed.
     fn is_closed(self) -> bool
         ensures tested { λ r. ⌜ r ≡ isClosed self ⌝ }
     {
@@ -59,7 +59,7 @@ impl Session {
         }
     }
 
-    // The session as it was, beside the refusal.
+    // Returns the session as it was, beside the refusal.
     fn refused(self, error: SessionError) -> Sent
         ensures told { λ r. ⌜ r ≡ refusedBy error self ⌝ }
     {
@@ -69,7 +69,7 @@ impl Session {
         }
     }
 
-    // Encodes a command that goes. The session stays where the encoder refuses.
+    // Encodes a command that may be sent. The session stays if the encoder refuses.
     fn encoded(self, command: Command, out: &mut [u8]) -> Sent
         ensures told { λ r. ⌜ r ≡ encodedBy self command (length (now (out .entry))) ⌝ }
         ensures left { λ _. ⌜ now (out .exit) ≡ bufferAfter (unsupported command) (commandFrame command)
@@ -84,7 +84,7 @@ impl Session {
         }
     }
 
-    // The session after the command, sent.
+    // Returns the session after the command is sent.
     fn after(command: Command) -> Self
         ensures told { λ r. ⌜ r ≡ afterSending command ⌝ }
     {

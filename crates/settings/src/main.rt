@@ -1,7 +1,7 @@
-// A conversation with a module, from `EnableConfig` to `EndConfig`, as a station has it: a session, and beside it the
+// A conversation with a module, from `EnableConfig` to `EndConfig`, as a station holds it: a session, and beside it a
 // parser of what the module sends, which comes from standard input. The output has each command as it is sent, and
-// under it what the frames did that came. The file stdout beside src/ has what request 2 and the maker's
-// documents say, written by hand.
+// under it the effect of each frame that came. The file stdout beside src/ has what request 2 and the maker's documents
+// say, written by hand.
 use ld2410::Command;
 use ld2410::Gate;
 use ld2410::Parser;
@@ -12,14 +12,14 @@ use libc::STDIN_FILENO;
 
 mod text;
 
-// Where the conversation stands: the session, the parser, and how many of the module's bytes are taken.
+// The state of the conversation: the session, the parser, and how many of the module's bytes are taken.
 struct Turn {
     parser: Parser,
     session: Session,
     taken: usize,
 }
 
-// The commands of the conversation, in their order.
+// Returns the command of a step of the conversation.
 fn command(step: u8) -> Command {
     match step {
         0 => Command::EnableConfig,
@@ -64,8 +64,8 @@ fn exchange(at: Turn, command: Command, bytes: &[u8]) -> Turn {
     }
 }
 
-// Feeds what the module sends, from a place on, and hands over each frame as it comes, until one ends the wait. Where
-// no more comes, the wait is given up.
+// Feeds what the module sends, from a place on, and hands over each frame as it comes, until one ends the wait. If no
+// more comes, it gives up the wait.
 fn listen(parser: Parser, session: Session, bytes: &[u8], start: usize) -> Turn {
     let mut parser = parser;
     let mut session = session;
@@ -104,7 +104,7 @@ fn listen(parser: Parser, session: Session, bytes: &[u8], start: usize) -> Turn 
     }
 }
 
-// The conversation.
+// Holds the conversation: sends each command in turn.
 fn converse(start: Turn, bytes: &[u8]) -> Turn {
     let mut at = start;
     let mut step = 0;
@@ -115,9 +115,9 @@ fn converse(start: Turn, bytes: &[u8]) -> Turn {
     at
 }
 
-// Three of them. In the first the module answers as the documents print it, with two reports between and two bytes of
-// noise. In the second it does not open. In the third a command fails, the same command's success comes late, and then
-// nothing but the front of a frame.
+// Holds three conversations. In the first the module answers as the documents print it, with two reports and two bytes
+// of noise between. In the second it does not open. In the third a command fails, the same command's success comes
+// late, and then nothing but the front of a frame.
 fn main() {
     let mut input = io::buffer();
     let n = io::read_full(STDIN_FILENO, &mut input);

@@ -24,7 +24,7 @@ fn wide(byte: u8) -> u64 {
     byte as u64
 }
 
-// The frame that is sent: the front of a buffer.
+// Writes the frame that is sent: the front of a buffer.
 pub fn sent(out: &[u8], n: usize) {
     let end = min(n, out.len());
     text(b"sent");
@@ -32,14 +32,14 @@ pub fn sent(out: &[u8], n: usize) {
     text(b"\n");
 }
 
-// Why a command is not sent.
+// Writes why a command is not sent.
 pub fn refused(number: u8) {
     text(b"refused ");
     io::print_decimal(STDOUT_FILENO, wide(number));
     text(b"\n");
 }
 
-// A frame that passed, if there was one.
+// Writes that a frame passed, if there was one.
 pub fn passed(kind: FrameKind) {
     match kind {
         FrameKind::None => {}
@@ -48,7 +48,7 @@ pub fn passed(kind: FrameKind) {
     }
 }
 
-// The acknowledgement that ended the wait; `buf` is the parser's buffer, in which its payload stands.
+// Writes how the acknowledgement ended the wait; `buf` is the parser's buffer, which holds its payload.
 pub fn ended(ok: bool, ack: Ack, buf: &[u8]) {
     if ok {
         text(b"done\n");
@@ -58,7 +58,7 @@ pub fn ended(ok: bool, ack: Ack, buf: &[u8]) {
     parameters(ack.parameters(buf));
 }
 
-// What the module is set to, where the acknowledgement says it.
+// Writes what the module is set to, if the acknowledgement says it.
 fn parameters(reply: ParametersResult) {
     let outcome = reply.outcome;
     if outcome.number() != 0 {
@@ -74,7 +74,7 @@ fn parameters(reply: ParametersResult) {
     text(b" s\n");
 }
 
-// The module did not answer.
+// Writes that the module did not answer.
 pub fn given_up() {
     text(b"given up\n");
 }

@@ -1,10 +1,12 @@
--- The parts of a slice's run: what a function that takes some of the bytes promises to the loop over them.
---   after i r                   the run r, with i bytes before it
---   runFrom limit c st buf bs i the run of the bytes bs from number i on, i of them taken before
---   onFrom limit r buf bs       what r comes to: itself, where it ended a frame; else the run from where it is
---   AtState limit s c bs i      the scan c is well formed and in the state s, and there is a byte number i
---   PartialRun                  r took bytes from number i on, and comes to what all from there come to
---   DataRun                     r took the data bytes from number i on that are due or there: none outside the data
+-- A slice's run in parts: what a function that takes some of the bytes promises to the loop over them.
+--   after i r                     the run r, with i bytes taken before it
+--   runFrom limit c st buf bs i   the run of the bytes bs from byte i on
+--   onAs e r rest                 r if it ended a frame, else `rest`
+--   onFrom limit r buf bs         the run that r begins: r itself if it ended a frame, else the run on from there
+--   AtState limit s c bs i        the scan c is well-formed and in the state s, and bs has a byte i
+--   PartialRun                    r took one or more bytes from byte i on, and begins the run from there
+--   DataRun                       r took bytes from byte i on until the data or the bytes ended, and ended no frame;
+--                                 the run goes on from there as from byte i
 use mathlib.Core.Path.{_≡_}
 use mathlib.Core.List.{List}
 use mathlib.Core.Bool.{true}

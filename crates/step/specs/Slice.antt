@@ -1,5 +1,8 @@
--- What a slice of bytes does: their steps, one after the other, up to and with the first that ends a frame.
---   Run                       what was scanned, and the buffer that it left
+-- What a slice of bytes does: their steps, one after another, up to the first that ends a frame.
+--   Run                       what was scanned, and the buffer afterwards
+--   runAt c st e n buf        the run with these parts
+--   oneMore r                 the run r, with one byte taken before it
+--   thenRun e r buf others    the run of the step r alone if it ended a frame, else with the run `others` after it
 --   runOf limit c st buf bs   the run of the bytes bs from the scan c, the counters st and the buffer buf
 use mathlib.Core.List.{List, [], _∷_}
 use Prim.Native.Nat.{ℕ, suc}
@@ -18,11 +21,9 @@ pub record Run : Type 0 where
 abbrev pub runAt : Scan → Stats → Ended → ℕ → List ℕ → Run
 runAt c st e n buf = record { scanned = record { scan = c; stats = st; ended = e; taken = n }; buf = buf }
 
--- one byte came before the run
 abbrev pub oneMore : Run → Run
 oneMore r = runAt (r .scanned .scan) (r .scanned .stats) (r .scanned .ended) (suc (r .scanned .taken)) (r .buf)
 
--- the step r ended a frame, and nothing more is taken; or the others follow
 abbrev pub thenRun : Ended → Stepped → List ℕ → Run → Run
 thenRun (Frame k n) r buf others = runAt (r .scan) (r .stats) (r .ended) 1 buf
 thenRun Nothing r buf others = oneMore others

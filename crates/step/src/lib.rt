@@ -1,2 +1,2 @@
-// What bytes do to a scan: one byte's step, and the run of a slice, without what the frames hold. It is definitions and
-// laws, and has no code: `feed` has it.
+// What bytes do to a scan: the step of one byte, and the run of a slice, without reading what the frames hold. The
+// crate has definitions and laws; the crate `feed` has the code.

@@ -1,9 +1,14 @@
 -- What a call delivers, and what the counters count: document 01, "The division of a stream".
---   Answer         a frame, and the bytes of its payload: those that stand where the frame says they do
---   decodes f      no check of the whole frame f fails
---   delivered f    the frame that the whole frame f is read as, its payload counted in the parser's buffer
---   payloadOf x s  the bytes of s at the place that the frame x gives its payload; none beside a report, or no frame
---   Counter        the four counters, and what each piece adds to them
+--   Answer            a frame, and the bytes of its payload
+--   holds o           whether no check failed
+--   decodes f         whether the whole frame f passes every check: document 01's decodes
+--   countedIn k i x   the frame x of the kind k; an acknowledgement's payload starts at place i
+--   payloadOf x s     the bytes of s where x has its payload, none if x is no acknowledgement; payloadBy, by its kind
+--   delivered f       the answer that delivers the whole frame f; its payload's start is counted in the parser's buffer
+--   nothing           the answer "no frame"
+--   isFrame k         whether an answer of the kind k has a frame
+--   Counter           the four counters
+--   adds c p          what the piece p adds to the counter c
 use mathlib.Core.List.{List, []}
 use mathlib.Core.Bool.{Bool, true, false, not}
 use Prim.Native.Nat.{ℕ}

@@ -1,6 +1,6 @@
--- The lengths that the stream takes, over the largest.
+-- The data lengths that the stream takes.
 --   linkLimit         the largest length of document 01
---   InRange limit n   the length n is 2 to `limit`; inRange, the same as a test
+--   InRange limit n   the length n is 2 to `limit`; inRange is the same as a test
 use mathlib.Core.Bool.{Bool, _&&_}
 use Prim.Native.Nat.{ℕ, _≤_}
 use lib.Dec.{leb}

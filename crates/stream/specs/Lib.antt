@@ -4,8 +4,9 @@ pub mod Open
 pub mod Deliver
 -- The link as demand 3 speaks of it.
 pub mod Protocol
--- How soon the stream is read right again.
+-- How soon frames are found again after a disturbance.
 pub mod Recovery
 -- The claims.
 pub mod Claims
+-- Which data lengths are in range.
 pub mod Length

@@ -14,7 +14,7 @@ use Rattle.wire.specs.declared.Kind.{Kind}
 abbrev pub Prefix : List ℕ → List ℕ → Type 0
 Prefix s t = (r : List ℕ) × (s ++ r ≡ t)
 
--- "A string is open if it is ..."
+-- "A string is open if it is"
 pub data Open (limit : ℕ) (s : List ℕ) : Type 0 where
   -- "a prefix of a header"
   in-header : (k : Kind) → Prefix s (header k) → Open limit s

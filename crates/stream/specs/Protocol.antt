@@ -1,5 +1,5 @@
 -- The LD2410's link, as demand 3 (crate `engine`) speaks of it: document 01, "The division of a stream".
---   ld2410 limit   over the largest length that the stream takes
+--   ld2410 limit   the link, over the largest length that the stream takes
 use Prim.Native.Nat.{ℕ}
 use Rattle.engine.specs.Fulfilled.{Protocol}
 use Rattle.stream.specs.Open.{Open, Whole}

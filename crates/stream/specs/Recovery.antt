@@ -1,16 +1,16 @@
--- How soon the stream is read right again: request 5, over the largest length `limit`, which it sets to 54.
---   Plain b               b begins no header
---   Clean limit f         f is a whole frame with plain data bytes alone
---   joined fs             the frames fs, "back to back"
---   Recovered             a frame after others is found, and delivered if it decodes
---   Recovers limit E p s  so is, from the state s of the engine E, in which p is pending, each clean frame that begins
---                         `limit` or more bytes later
---   FoundInStretch limit E p s   so is each found in the division of its whole stretch, from fresh or the last reset on
---   Sendable limit x      x, a family and data, may be sent as such a frame; frameBytes x, its frame
---   backToBack xs         the frames of xs, one after another
---   Regains limit E s     so all that are sent `limit` or more bytes later are delivered, those that decode
---   Lost limit p early    after p and the frames `early`, which are one byte shorter than `limit`, the next clean frame
---                         is neither found nor delivered
+-- How soon frames are found again after a disturbance: request 5, over the largest length `limit`, which it sets to 54.
+--   Plain b                b begins no header
+--   Clean limit f          f is a whole frame, and all its data bytes are plain
+--   joined fs              the frames fs, "back to back"
+--   Recovered              a frame after others is found, and delivered if it decodes
+--   Recovers limit E p s   from the state s of the engine E, in which p is pending, each clean frame that begins
+--                          `limit` or more bytes later is Recovered
+--   FoundInStretch limit E p s   each such frame is found in the division of its whole stretch too
+--   Sendable limit x       x, a family and data, can be sent as a clean frame; frameBytes x is that frame
+--   backToBack xs          the frames of xs, one after another
+--   Regains limit E s      of the frames sent `limit` or more bytes later, those that decode are delivered
+--   Lost limit p early     if p is pending and the frames `early` come, one byte shorter than `limit`, the next clean
+--                          frame is neither found nor delivered
 use mathlib.Core.Path.{_≡_}
 use mathlib.Core.Logic.{_≢_}
 use mathlib.Core.List.{List, [], _∷_, _++_, map}
@@ -33,7 +33,7 @@ use Rattle.stream.specs.Protocol.{ld2410}
 abbrev pub Plain : ℕ → Type 0
 Plain b = (b ≢ 0xF4) × (b ≢ 0xFD)
 
--- "whole frames .., lengths 2 to 54, none with F4 or FD among its data bytes"
+-- "whole frames .. lengths 2 to 54, none with F4 or FD among its data bytes"
 abbrev pub Clean : ℕ → List ℕ → Type 0
 Clean limit f = (w : Whole limit f) × Every Plain (w .held)
 
@@ -41,7 +41,7 @@ abbrev pub joined : List (List ℕ) → List ℕ
 joined [] = []
 joined (f ∷ fs) = f ++ joined fs
 
--- The calls did ds, after p was pending, and took the frames `early`, then f, then v; ps are the pieces.
+-- p was pending; then the calls did ds and took the frames `early`, then f, then v. The pieces of all this are ps.
 pub record Recovered (limit : ℕ) (ds : List (Did Answer)) (p : List ℕ) (early : List (List ℕ)) (f v : List ℕ)
     (ps : List Piece) : Type 0 where
   -- "is found whole", in its place
@@ -52,8 +52,8 @@ pub record Recovered (limit : ℕ) (ds : List (Did Answer)) (p : List ℕ) (earl
   pub anew : Division (Open limit) (Whole limit) v (found .after)
 
 -- "Suppose the parser is in any state, and from there on, without a reset, only whole frames arrive, back to back ..
--- Then each of them that begins 54 or more bytes after that moment" is recovered: f, after the frames `early`. What
--- arrives after f, v, may be anything.
+-- Then each of them that begins 54 or more bytes after that moment" is recovered: f, after the frames `early`. The
+-- bytes v after f may be anything.
 abbrev pub Recovers : {S : Type 0} → ℕ → Engine S Answer Counter → List ℕ → S → Type 0
 Recovers limit E p s = (calls : List Call) → Every ByteCall calls → Every Goes calls
     → (early : List (List ℕ)) → Every (Clean limit) early → limit ≤ length (joined early)
@@ -61,9 +61,8 @@ Recovers limit E p s = (calls : List Call) → Every ByteCall calls → Every Go
     → (ps : List Piece) → Division (Open limit) (Whole limit) (p ++ takenBy (history E s calls)) ps
     → Recovered limit (history E s calls) p early f v ps
 
--- "is found whole" in the stretch's own division: the calls `calls` come before that moment, with resets among them or
--- without, and the stretch may hold anything by then; the calls `more` come after it. p is what was pending before all
--- of them, [] in a fresh parser.
+-- "is found whole" in the division of the whole stretch: `calls` come before that moment, with or without resets, and
+-- the stretch may hold anything by then; `more` come after it. p was pending before all of them: [] in a fresh parser.
 abbrev pub FoundInStretch : {S : Type 0} → ℕ → Engine S Answer Counter → List ℕ → S → Type 0
 FoundInStretch limit E p s = (calls more : List Call) → Every Goes more
     → (early : List (List ℕ)) → Every (Clean limit) early → limit ≤ length (joined early)
@@ -72,7 +71,7 @@ FoundInStretch limit E p s = (calls more : List Call) → Every Goes more
     → (ps : List Piece) → Division (Open limit) (Whole limit) (soFar p (history E s (calls ++ more))) ps
     → EndsAt ps (length (soFar p (history E s calls) ++ (joined early ++ f))) f
 
--- What follows for who sends, by families and data alone. "lengths 2 to 54, none with F4 or FD among its data bytes"
+-- For a sender, who knows families and data alone: "lengths 2 to 54, none with F4 or FD among its data bytes"
 abbrev pub Sendable : ℕ → Kind × List ℕ → Type 0
 Sendable limit x = InRange limit (length (x .1)) × Every (λ b. (b ≢ 0xF4) × (b ≢ 0xFD)) (x .1)
 
@@ -83,8 +82,8 @@ abbrev pub backToBack : List (Kind × List ℕ) → List ℕ
 backToBack [] = []
 backToBack (x ∷ xs) = frameBytes x ++ backToBack xs
 
--- Of what the frames `early` deliver nothing is said. After it come those of `late` that decode, each once, in order,
--- and nothing else.
+-- What the frames `early` deliver, `before`, is left open. Then those of `late` that decode are delivered, each once,
+-- in order, and nothing else.
 abbrev pub Regains : {S : Type 0} → ℕ → Engine S Answer Counter → S → Type 0
 Regains limit E s = (calls : List Call) → Every ByteCall calls → Every Goes calls
     → (early late : List (Kind × List ℕ)) → Every (Sendable limit) early → Every (Sendable limit) late
@@ -94,14 +93,14 @@ Regains limit E s = (calls : List Call) → Every ByteCall calls → Every Goes 
 
 -- "Show too that 53 is not enough."
 pub record Lost (limit : ℕ) (p : List ℕ) (early : List (List ℕ)) : Type 0 where
-  -- p may be pending, and the frames are such as above
+  -- p can be pending, and the frames `early` are clean
   pub may-wait : Open limit p × (¬ Whole limit p)
   pub clean : Every (Clean limit) early
   pub one-less : suc (length (joined early)) ≡ limit
-  -- whichever clean frame is next, and whatever follows it, it is no whole piece in its place
+  -- whichever clean frame f is next, and whatever follows it, f is not found in its place
   pub unfound : (f : List ℕ) → Clean limit f → (v : List ℕ) (ps : List Piece)
       → Division (Open limit) (Whole limit) (p ++ (joined early ++ (f ++ v))) ps
       → ¬ EndsAt ps (length (p ++ (joined early ++ f))) f
-  -- and up to its end no piece is delivered
+  -- and nothing is delivered up to its end
   pub undelivered : (f : List ℕ) → Clean limit f → (ps : List Piece)
       → Division (Open limit) (Whole limit) (p ++ (joined early ++ f)) ps → answers decodes delivered ps ≡ []

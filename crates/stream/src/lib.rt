@@ -1,6 +1,6 @@
 // The stream of the LD2410's link: which strings are open and which are whole frames, what a whole frame delivers, and
-// what the counters count. It is definitions and laws; its code is the test of a length. Each function of this file is
-// empty and never called: its contract pins claims of specs/Claims.antt.
+// what the counters count. The crate has definitions and laws; its only code tests a length. Each function of this file
+// is empty and never called: its contract pins claims of specs/Claims.antt.
 mod limit;
 
 pub use limit::in_range;
@@ -11,14 +11,14 @@ ghost use Rattle.stream.specs.Claims.{BadLength, BrokenTail};
 ghost use Rattle.stream.specs.Claims.{DecodesWhole, DeliversWhole, DeliversParsed};
 ghost use Rattle.stream.specs.Claims.{AnyRecovers, AnyFound, AnyRegains, NotSooner, NotSoonerAt244};
 
-// A whole frame is what framing its data gives; a stray byte is neither of two.
+// Pins that a whole frame is what framing its data gives, and that a stray byte is neither F4 nor FD.
 fn framing_claims()
     ensures framed { λ _. ⌜ WholeFramed ⌝ }
     ensures stray { λ _. ⌜ StrayBytes ⌝ }
 {}
 
-// `once`, `spelled`, `length`, `unfinished`: what a division is. `append`, `total`, `ends`: what more bytes do to it.
-// `bound`, `reached`: how often a stream can break, and that some break so often.
+// Pins what a division is (`once`, `spelled`, `length`, `unfinished`); what more bytes do to it (`append`, `total`,
+// `ends`); how often a stream can break (`bound`), and that some break so often (`reached`).
 fn division_claims()
     ensures once { λ _. ⌜ DividesOnce ⌝ }
     ensures spelled { λ _. ⌜ DivisionSpelled ⌝ }
@@ -31,20 +31,20 @@ fn division_claims()
     ensures reached { λ _. ⌜ ResyncsReached ⌝ }
 {}
 
-// Where a broken start ends: document 01's traps of the stream.
+// Pins where a broken start ends: document 01's traps of the stream.
 fn trap_claims()
     ensures bad_length { λ _. ⌜ BadLength ⌝ }
     ensures broken_tail { λ _. ⌜ BrokenTail ⌝ }
 {}
 
-// A whole frame decodes, and delivers, as its data do.
+// Pins that a whole frame decodes, and delivers, as its data do.
 fn delivery_claims()
     ensures decodes { λ _. ⌜ DecodesWhole ⌝ }
     ensures delivers { λ _. ⌜ DeliversWhole ⌝ }
     ensures parsed { λ _. ⌜ DeliversParsed ⌝ }
 {}
 
-// How soon the stream is read right again, and that one byte less is not enough.
+// Pins how soon the stream is read right again, and that one byte less is not enough.
 fn recovery_claims()
     ensures recovers { λ _. ⌜ AnyRecovers ⌝ }
     ensures found { λ _. ⌜ AnyFound ⌝ }

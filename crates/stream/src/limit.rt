@@ -6,7 +6,7 @@ ghost use Rattle.stream.specs.Length.{linkLimit, inRange};
 // The smallest length that the parser takes: a bare command word.
 const MIN_DATA: usize = 2;
 
-// Whether the parser takes this length.
+// Tests whether the parser takes this length.
 pub fn in_range(len: usize) -> bool
     ensures told { λ r. ⌜ r ≡ inRange linkLimit len ⌝ }
 {

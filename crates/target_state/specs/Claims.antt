@@ -1,8 +1,8 @@
--- Request 3: "state 04 to background calibration running, 05 to done, 06 to failed. [..] Decode these three as
--- states of their own, without any target; bytes 07 and above keep the old rule." That they are states of their own is
--- `kept` of `TargetState::from_byte` too: each has its byte.
+-- Request 3: "state 04 to background calibration running, 05 to done, 06 to failed .. Decode these three as states of
+-- their own, without any target; bytes 07 and above keep the old rule." They are states of their own by `kept` of
+-- `TargetState::from_byte` too: each gives its byte back.
 --   Calibrating b     the byte b is one of the three: 04, 05, 06
---   Calibration b t   the request, of the state t that the byte b is read as
+--   Calibration b t   what the request says of the state t that the byte b is read as
 use mathlib.Core.Path.{_≡_}
 use mathlib.Core.Bool.{false}
 use Prim.Native.Nat.{ℕ, _%_, _≤_}

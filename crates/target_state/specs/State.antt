@@ -1,10 +1,10 @@
--- The target state: "State uses its two lowest bits only"; and request 3: "state 04 to background calibration
--- running, 05 to done, 06 to failed", "bytes 07 and above keep the old rule".
---   byBits n       the state of two bits: 0 none, 1 moving, 2 stationary, 3 both
---   stateOf b      the state that the byte b stands for
---   byteOf t       the byte that the module sends for the state t
---   stateMax       the largest of these bytes
---   movingOf t, stationaryOf t, presentOf t   which targets the state t says are there: moving, stationary, either
+-- The target state: "State uses its two lowest bits only"; and request 3: "state 04 to background calibration running,
+-- 05 to done, 06 to failed", "bytes 07 and above keep the old rule".
+--   byBits n    the state by two bits, as a number n: 0 none, 1 moving, 2 stationary, 3 both
+--   stateOf b   the state that the byte b is read as
+--   byteOf t    the byte that is written for the state t
+--   stateMax    the largest of these bytes
+--   movingOf t, stationaryOf t, presentOf t   whether the state t has a moving target, a stationary one, either
 use mathlib.Core.Bool.{Bool, true, false, cond, _||_}
 use Prim.Native.Nat.{ℕ, zero, suc, _%_}
 use lib.Dec.{eqb}
@@ -34,7 +34,7 @@ byteOf CalibrationRunning = 4
 byteOf CalibrationDone = 5
 byteOf CalibrationFailed = 6
 
--- "equal bytes for states 0 to 6": a byte that is sent for a state, and no other
+-- "equal bytes for states 0 to 6": these are the bytes that are written
 abbrev pub stateMax : ℕ
 stateMax = 6
 

@@ -1,11 +1,11 @@
-// The target state of a report: which targets the module sees, or where its background calibration stands, and the byte
+// The target state of a report: which targets the module sees, or the state of its background calibration, and the byte
 // that says so.
 ghost use mathlib.Core.Path.{_≡_};
 ghost use Prim.Native.Nat.{_≤_};
 ghost use Rattle.target_state.specs.State.{stateOf, byteOf, stateMax, movingOf, stationaryOf, presentOf};
 ghost use Rattle.target_state.specs.Claims.{Calibration};
 
-// What the module currently sees, or where its background calibration stands: the state byte of a report.
+// The targets that the module sees, or the state of its background calibration: the state byte of a report.
 pub enum TargetState {
     // No target.
     None,
@@ -24,8 +24,8 @@ pub enum TargetState {
 }
 
 impl TargetState {
-    // Decodes the state byte: 4, 5 and 6 are states of their own, of any other the two lowest bits count. A byte that
-    // is sent for a state is what `to_byte` gives for it.
+    // Decodes the state byte: 4, 5 and 6 are states of their own; of any other byte the two lowest bits count. A byte
+    // up to 6 is what `to_byte` gives for its state.
     pub fn from_byte(byte: u8) -> Self
         ensures decoded { λ r. ⌜ r ≡ stateOf byte ⌝ }
         ensures kept { λ r. ⌜ (byte ≤ stateMax → byteOf r ≡ byte) ⌝ }
@@ -44,7 +44,7 @@ impl TargetState {
         }
     }
 
-    // The byte that the module sends for this state, which is decoded as the state.
+    // Returns the byte that the module sends for this state, which is decoded as the state.
     pub fn to_byte(self) -> u8
         ensures encoded { λ r. ⌜ r ≡ byteOf self ⌝ }
         ensures kept { λ r. ⌜ (r ≤ stateMax) × (stateOf r ≡ self) ⌝ }
@@ -60,7 +60,7 @@ impl TargetState {
         }
     }
 
-    // Whether a moving target is present.
+    // Tests whether a moving target is present.
     pub fn moving(self) -> bool
         ensures told { λ r. ⌜ r ≡ movingOf self ⌝ }
     {
@@ -75,7 +75,7 @@ impl TargetState {
         }
     }
 
-    // Whether a stationary target is present.
+    // Tests whether a stationary target is present.
     pub fn stationary(self) -> bool
         ensures told { λ r. ⌜ r ≡ stationaryOf self ⌝ }
     {
@@ -90,7 +90,7 @@ impl TargetState {
         }
     }
 
-    // Whether any target is present.
+    // Tests whether any target is present.
     pub fn present(self) -> bool
         ensures told { λ r. ⌜ r ≡ presentOf self ⌝ }
     {

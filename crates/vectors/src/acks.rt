@@ -16,7 +16,7 @@ use ld2410::ParametersResult;
 use ld2410::SpanResult;
 use ld2410::word;
 
-// An acknowledgement's data, awaited for a word.
+// Writes the row of an acknowledgement's data, with a word awaited.
 pub fn in_data(label: &[u8], data: &[u8], awaited: u16) {
     text(label);
     match Ack::parse(data) {
@@ -29,13 +29,13 @@ pub fn in_data(label: &[u8], data: &[u8], awaited: u16) {
     }
 }
 
-// An acknowledgement in a whole frame whose command awaits nothing more.
+// Writes the row of a whole frame whose acknowledgement has no reply.
 pub fn plain(label: &[u8], frame: [u8; PLAIN], awaited: u16) {
     in_frame(label, &frame, awaited);
     text(b"\n");
 }
 
-// The acknowledgement of `EnableConfig`, with its reply; so with the three below.
+// Writes the row of `EnableConfig`'s acknowledgement, with its reply; the three below do so for theirs.
 pub fn enable_config(label: &[u8], frame: &[u8]) {
     let ack = in_frame(label, frame, word::ENABLE_CONFIG);
     match ack.enable_config(frame) {
@@ -60,7 +60,7 @@ pub fn firmware_version(label: &[u8], frame: &[u8]) {
     }
 }
 
-// What a reply refuses.
+// Writes the refusal of a reply.
 fn refused(refusal: u8) {
     number(b", reply %\n", refusal as u64);
 }
@@ -92,7 +92,7 @@ fn parameters_reply(reply: ParametersResult) {
     number(b", seconds %\n", p.no_one_secs as u64);
 }
 
-// The refusal and the farthest gates.
+// Returns the refusal and the farthest gates.
 fn farthest(reply: ParametersResult) -> Row {
     let outcome = reply.outcome;
     let p = reply.parameters;
@@ -107,7 +107,7 @@ fn farthest(reply: ParametersResult) -> Row {
     ]
 }
 
-// The front of a row about a whole frame, and the acknowledgement, whose payload stands in the frame's bytes.
+// Writes the front of a row about a whole frame, and returns the acknowledgement, whose payload is in `bytes`.
 fn in_frame(label: &[u8], bytes: &[u8], awaited: u16) -> Ack {
     let frame = frames::read(label, bytes);
     let ack = frame.ack;
@@ -122,7 +122,7 @@ fn fields(ack: Ack, awaited: u16) {
     );
 }
 
-// The fields, the awaited word, and what `expect` of it refuses.
+// Returns the fields, the awaited word, and what `expect` of it refuses.
 fn row(ack: Ack, awaited: u16) -> Row {
     let payload = ack.payload;
     [

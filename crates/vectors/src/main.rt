@@ -1,6 +1,6 @@
-// Holds the readers and the writers against the documents: it reads the bytes that document 01 and the maker's
-// documents print, writes the commands that they print, reads and writes again the states of request 3, and
-// puts out a line for each. The file stdout beside src/ has what the documents say of them, written by hand.
+// Tries the readers and the writers against the documents: it reads the bytes that document 01 and the maker's
+// documents print, writes the commands that they print, reads and writes again the states of request 3, and writes a
+// line for each. The file stdout beside src/ has what the documents say of them, written by hand.
 use ld2410::Baud;
 use ld2410::Command;
 use ld2410::Gate;
@@ -15,7 +15,7 @@ mod states;
 mod text;
 mod tried;
 
-// The rows of document 01's "Bytes to try" about readers.
+// Writes the rows of document 01's "Bytes to try" about readers.
 fn tried_rows() {
     reports::in_frame(b"B", &tried::B);
     reports::in_data(b"B's data", &tried::B_DATA);
@@ -27,13 +27,13 @@ fn tried_rows() {
     acks::in_data(b"FF 01 01 00", &tried::FAILED_ACK, word::READ_PARAMETERS);
 }
 
-// The published reports.
+// Writes the rows of the published reports.
 fn published_reports() {
     reports::in_frame(b"basic report", &published::BASIC);
     reports::in_frame(b"engineering report", &published::ENGINEERING);
 }
 
-// The published acknowledgements of commands that configure, in the documents' order.
+// Writes the rows of the published acknowledgements of commands that configure, in the documents' order.
 fn published_settings() {
     acks::enable_config(b"EnableConfig", &published::ENABLE_CONFIG);
     acks::plain(b"EndConfig", published::END_CONFIG, word::END_CONFIG);
@@ -60,7 +60,7 @@ fn published_settings() {
     );
 }
 
-// Those of commands about the module itself.
+// Writes the rows of the acknowledgements of commands about the module itself.
 fn published_module() {
     acks::firmware_version(b"ReadFirmware", &published::READ_FIRMWARE);
     acks::firmware_version(b"ReadFirmware, LD2410C", &published::READ_FIRMWARE_C);
@@ -75,7 +75,7 @@ fn published_module() {
     acks::mac(b"ReadMac", &published::READ_MAC);
 }
 
-// The published commands that configure, in the documents' order.
+// Writes the rows of the published commands that configure, in the documents' order.
 fn sent_settings() {
     sent::sent(b"EnableConfig", Command::EnableConfig);
     sent::sent(b"EndConfig", Command::EndConfig);
@@ -94,7 +94,7 @@ fn sent_settings() {
     sensitivity(b"SetSensitivity all, 40, 40", Gate::All);
 }
 
-// A sensitivity of 40 for moving and stationary targets.
+// Writes the row of a sensitivity of 40 for moving and stationary targets.
 fn sensitivity(label: &[u8], gate: Gate) {
     sent::sent(
         label,
@@ -106,7 +106,7 @@ fn sensitivity(label: &[u8], gate: Gate) {
     );
 }
 
-// Those about the module itself.
+// Writes the rows of the commands about the module itself.
 fn sent_module() {
     sent::sent(b"ReadFirmware", Command::ReadFirmware);
     sent::sent(b"SetBaud 256000", Command::SetBaud(Baud::B256000));
@@ -116,7 +116,7 @@ fn sent_module() {
     sent::sent(b"ReadMac", Command::ReadMac);
 }
 
-// A module under calibration, and state bytes to either side: request 3.
+// Writes the rows of a module under calibration, and of state bytes to either side: request 3.
 fn calibration() {
     states::basic(b"B, state 03", 3);
     states::basic(b"B, state 04", 4);

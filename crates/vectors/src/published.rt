@@ -46,7 +46,7 @@ pub const READ_FIRMWARE: [u8; 22] = *b"\
     \xA0\x01\x00\x00\x00\x00\x02\x01\x16\x24\x06\x22\
     \x04\x03\x02\x01";
 
-// The LD2410C's: the document gives its type alone, so the rest is as above.
+// The LD2410C's reply to `READ_FIRMWARE`: the document gives its type alone, so the rest is as above.
 pub const READ_FIRMWARE_C: [u8; 22] = *b"\
     \xFD\xFC\xFB\xFA\x0C\x00\
     \xA0\x01\x00\x00\x00\x01\x02\x01\x16\x24\x06\x22\

@@ -9,13 +9,13 @@ use crate::text::text;
 use ld2410::Engineering;
 use ld2410::Report;
 
-// A report in a whole frame.
+// Writes the row of a report in a whole frame.
 pub fn in_frame(label: &[u8], bytes: &[u8]) {
     let frame = frames::read(label, bytes);
     fields(frame.report);
 }
 
-// A report's data.
+// Writes the row of a report's data.
 pub fn in_data(label: &[u8], data: &[u8]) {
     let read = Report::parse(data);
     let outcome = read.outcome;
@@ -35,7 +35,7 @@ fn fields(report: Report) {
     text(b"\n");
 }
 
-// The fields but the engineering block.
+// Returns the fields but the engineering block.
 fn basic(report: Report) -> Row {
     let state = report.state;
     [

@@ -1,5 +1,5 @@
-// Rows about the state byte, request 3. A row is a line with the state that a report is read in, the targets
-// that it tells, and the frame that it is written as, in a buffer each of whose bytes was EE before.
+// Rows about the state byte, request 3. A row is a line with the state that a report is read in, its targets, and the
+// frame that it is written as, in a buffer whose bytes were all EE before.
 use crate::frames;
 use crate::published;
 use crate::sent::written;
@@ -10,17 +10,17 @@ use ld2410::MaybeTarget;
 use ld2410::Report;
 use ld2410::write_report;
 
-// Where the state byte stands in a report frame.
+// The place of the state byte in a report frame.
 const STATE_AT: usize = 8;
 
-// Case B with another state byte.
+// Writes the row of case B with another state byte.
 pub fn basic(label: &[u8], state: u8) {
     let mut bytes = tried::B;
     bytes[STATE_AT] = state;
     again(label, &bytes);
 }
 
-// The published engineering report with another.
+// Writes the row of the published engineering report with another state byte.
 pub fn engineering(label: &[u8], state: u8) {
     let mut bytes = published::ENGINEERING;
     bytes[STATE_AT] = state;
@@ -39,7 +39,7 @@ fn again(label: &[u8], bytes: &[u8]) {
     written(answer, &out);
 }
 
-// The state, whether each target is there, and whether any is.
+// Returns the state, whether each target is present, and whether any is.
 fn told(report: Report) -> Row {
     let state = report.state;
     [

@@ -12,7 +12,7 @@ pub fn text(bytes: &[u8]) {
 }
 
 // Writes the byte of a form, or the number in its place: `%` in decimal, `~`, `#` and `@` in hexadecimal with at least
-// two, four and eight digits. Answers whether it was the number.
+// two, four and eight digits. Returns whether it was the number.
 fn piece(byte: u8, number: u64) -> bool {
     match byte {
         b'%' => {
@@ -34,7 +34,7 @@ fn hex(number: u64, width: usize) -> bool {
     true
 }
 
-// The place in a row after this one, if its number is used; the first one after the last.
+// Returns the place in a row after this one, if its number is used; the first one after the last.
 fn next(at: usize, used: bool) -> usize
     requires inside { ⌜ at < 7 ⌝ }
     ensures inside { λ r. ⌜ r < 7 ⌝ }
@@ -58,12 +58,12 @@ pub fn form(bytes: &[u8], row: Row) {
     }
 }
 
-// A form with one number.
+// Writes a form with one number.
 pub fn number(bytes: &[u8], number: u64) {
     form(bytes, [number, 0, 0, 0, 0, 0, 0]);
 }
 
-// Bytes in hexadecimal.
+// Writes bytes in hexadecimal.
 pub fn bytes(values: &[u8]) {
     let mut i = 0;
     while i < values.len() {
@@ -76,7 +76,7 @@ fn wide(byte: u8) -> u64 {
     byte as u64
 }
 
-// A byte for each gate.
+// Writes a byte for each gate.
 pub fn gates(values: [u8; GATES]) {
     bytes(&values);
 }

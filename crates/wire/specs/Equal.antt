@@ -1,4 +1,5 @@
--- Whether two byte strings are the same.
+-- Equality of byte strings.
+--   sameBytes s t   whether the byte strings s and t are the same
 use mathlib.Core.List.{List, [], _∷_}
 use mathlib.Core.Bool.{Bool, true, false, _&&_}
 use Prim.Native.Nat.{ℕ}

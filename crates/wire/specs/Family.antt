@@ -1,7 +1,7 @@
--- The two frame families: their headers and tails.
+-- The two frame families, report and command (family is document 01's word): their headers and tails.
 --   header k, tail k   the four bytes that begin and end a frame of the family k
 --   startingWith b     the family whose header starts with the byte b, if any
---   headerOf s         the family whose header the bytes s are, if they are one
+--   headerOf s         the family whose header is s, if any
 --   framed k d         the frame of the family k with the data d: header, length, data, tail
 use mathlib.Core.List.{List, [], _∷_, _++_}
 use mathlib.Core.Bool.{cond}

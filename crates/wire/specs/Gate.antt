@@ -1,5 +1,5 @@
 -- A value for each gate.
---   gateValues b n   a value for each gate, of which the first n are valid, at most nine
+--   gateValues bytes n   the array bytes, a value for each gate, and the count of those that are valid: n, at most 9
 use mathlib.Core.List.{List}
 use Prim.Native.Nat.{ℕ, min}
 use Rattle.wire.specs.declared.GateValues.{GateValues}

@@ -1,8 +1,9 @@
--- Numbers on the wire: "two- and four-byte numbers are little-endian".
---   little bs        the number that the bytes bs are, the first the least
---   leBytes n x      the n bytes of the number x, the least first
---   numberAt n s i   the number in the n bytes of s from place i, if they are all there
---   byteAt, le16At, le32At   the same at one, two and four bytes, as the code's answers
+-- Numbers on the wire: "Two- and four-byte numbers are little-endian."
+--   little bs        the number that the bytes bs make, the least significant first
+--   leBytes n x      the n lowest bytes of the number x, the least significant first
+--   numberAt n s i   the number in the n bytes of s from place i on, if s has them all
+--   answered there missing o   the code's answer for o: `there` of the number, or `missing`
+--   byteAt, le16At, le32At   numberAt of one, two and four bytes, as the code's answers
 use mathlib.Core.List.{List, [], _∷_}
 use mathlib.Core.Bool.{cond}
 use mathlib.Core.Option.{Option, none, some}
@@ -27,7 +28,6 @@ leBytes (suc n) x = x % 256 ∷ leBytes n (x / 256)
 abbrev pub numberAt : ℕ → List ℕ → ℕ → Option ℕ
 numberAt n s i = cond (leb (i + n) (length s)) (some (little (take n (drop i s)))) none
 
--- The code's answer for a number that may be missing, by its two variants.
 abbrev pub answered : {M : Type 0} → (ℕ → M) → M → Option ℕ → M
 answered there missing (some x) = there x
 answered there missing none = missing

@@ -1,12 +1,12 @@
 -- Copies of a byte string into another.
+--   over d i s n   the first i bytes of d, then n bytes of s, then the bytes of d from place i + n on
 --   pasted d i s   d with as much of s as fits over its bytes from place i on
 --   prefixed d s   d with as much of s as fits over its front
---   padded n s     the first n bytes of s, with zeros after them where s is shorter
+--   padded n s     the first n bytes of s, with zeros after them if s is shorter
 use mathlib.Core.List.{List, _++_}
 use Prim.Native.Nat.{ℕ, _+_, _-_, min}
 use lib.ListN.{length, take, drop, replicate}
 
--- d up to place i, then n bytes of s, then what stood after them
 unfoldable pub over : List ℕ → ℕ → List ℕ → ℕ → List ℕ
 over d i s n = (take i d ++ take n s) ++ drop (i + n) d
 

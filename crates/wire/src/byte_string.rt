@@ -1,4 +1,4 @@
-// Byte strings: whether two are equal, and copies of one into another.
+// Byte strings: comparing two, and copying one into another.
 //
 // Every function is total: a copy takes what fits.
 use crate::number::min;
@@ -6,7 +6,7 @@ ghost use mathlib.Core.Path.{_≡_};
 ghost use Rattle.wire.specs.Prefix.{pasted, prefixed};
 ghost use Rattle.wire.specs.Equal.{sameBytes};
 
-// Whether two slices hold the same bytes.
+// Tests whether two slices hold the same bytes.
 pub fn bytes_eq(a: &[u8], b: &[u8]) -> bool
     ensures compared { λ r. ⌜ r ≡ sameBytes (now (a .entry)) (now (b .entry)) ⌝ }
 {

@@ -1,4 +1,4 @@
-// The two frame families: their headers and tails, and the family that bytes announce.
+// The two kinds of frames: their headers and tails, and the kind that bytes announce.
 use super::Kind;
 use super::MaybeKind;
 use crate::byte_string::bytes_eq;
@@ -14,7 +14,7 @@ impl Kind {
 
     pub const COMMAND_TAIL: [u8; 4] = [0x04, 0x03, 0x02, 0x01];
 
-    // The family whose header starts with `byte`, if any.
+    // Returns the kind whose header starts with `byte`, if any.
     pub fn starting_with(byte: u8) -> MaybeKind
         ensures found { λ r. ⌜ r ≡ startingWith byte ⌝ }
     {
@@ -26,7 +26,7 @@ impl Kind {
     }
 }
 
-// The four bytes that begin a frame of the family.
+// Returns the four bytes that begin a frame of the kind.
 pub fn header_of(kind: Kind) -> [u8; 4]
     ensures headed { λ r. ⌜ r ≡ header kind ⌝ }
 {
@@ -36,7 +36,7 @@ pub fn header_of(kind: Kind) -> [u8; 4]
     }
 }
 
-// The four bytes that end it.
+// Returns the four bytes that end a frame of the kind.
 pub fn tail_of(kind: Kind) -> [u8; 4]
     ensures tailed { λ r. ⌜ r ≡ tail kind ⌝ }
 {
@@ -46,7 +46,7 @@ pub fn tail_of(kind: Kind) -> [u8; 4]
     }
 }
 
-// The family whose header the four bytes are, if they are one.
+// Returns the kind whose header the bytes are, if they are one.
 pub fn family_of(bytes: &[u8]) -> MaybeKind
     ensures found { λ r. ⌜ r ≡ headerOf (now (bytes .entry)) ⌝ }
 {

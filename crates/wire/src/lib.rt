@@ -1,4 +1,4 @@
-// What both directions of the LD2410's serial link share: its sizes, the two frame families, the command words, and a
+// What both directions of the LD2410's serial link share: its sizes, the two kinds of frames, the command words, and a
 // value for each gate.
 mod byte_string;
 mod kinds;
@@ -41,25 +41,25 @@ pub const MAX_EXTRA: usize = 8;
 // The bit that the module sets in an acknowledgement's command word.
 pub const ACK_BIT: u16 = 0x0100;
 
-// Which frame family a header announces.
+// The kind of a frame, which its header announces.
 pub enum Kind {
     Report,
     Command,
 }
 
-// A family, if there is one.
+// A kind, if there is one.
 pub enum MaybeKind {
     Some(Kind),
     None,
 }
 
-// A value for each gate, of which the first `count` are valid.
+// A value for each gate; the first `count` are valid.
 pub struct GateValues {
     pub bytes: [u8; GATES],
     pub count: usize,
 }
 
-// The first `count` of the values, or all of them where there are fewer.
+// Returns the first `count` of the values, or all of them if there are fewer.
 pub fn gate_values(bytes: [u8; GATES], count: usize) -> GateValues
     ensures made { λ r. ⌜ r ≡ gateValues bytes count ⌝ }
 {
@@ -69,8 +69,8 @@ pub fn gate_values(bytes: [u8; GATES], count: usize) -> GateValues
     }
 }
 
-// The first bytes of `src` in an array with a place for each gate, 0 where `src` has none. It moves nine bytes at most,
-// so a byte counts them.
+// Returns the first bytes of `src` in an array with a place for each gate, 0 where `src` has none. It moves nine bytes
+// at most, so a byte counts them.
 pub fn gate_array(src: &[u8]) -> [u8; GATES]
     ensures copied { λ r. ⌜ r ≡ padded 9 (now (src .entry)) ⌝ }
 {

@@ -1,6 +1,6 @@
-// Numbers: read from bytes, little-endian, and counters that stop at their max.
+// Numbers: read from bytes, little-endian, and counters that stop at their maximum.
 //
-// Every function is total: what may be missing is a variant of its answer.
+// Every function is total: if bytes are missing, the answer is `None`.
 ghost use mathlib.Core.Path.{_≡_};
 ghost use Prim.Native.Nat.{min};
 ghost use Rattle.wire.specs.Number.{byteAt, le16At, le32At};
@@ -9,7 +9,7 @@ ghost use Rattle.wire.specs.Counter.{bumped};
 // Where a counter stops: the largest number of 64 bits.
 const COUNTER_MAX: u64 = 18_446_744_073_709_551_615;
 
-// A number read from the wire, if its bytes are all there.
+// A number read from the wire, if all its bytes are present.
 pub enum MaybeU8 {
     Some(u8),
     None,
@@ -25,7 +25,7 @@ pub enum MaybeU32 {
     None,
 }
 
-// The byte at `at`, or `None` where the slice is too short.
+// Returns the byte at `at`, or `None` if the slice is too short.
 pub fn byte_at(bytes: &[u8], at: usize) -> MaybeU8
     ensures read { λ r. ⌜ r ≡ byteAt (now (bytes .entry)) at ⌝ }
 {
@@ -36,7 +36,7 @@ pub fn byte_at(bytes: &[u8], at: usize) -> MaybeU8
     }
 }
 
-// Little-endian `u16` at `at`, or `None` where the slice is too short.
+// Returns the little-endian `u16` at `at`, or `None` if the slice is too short.
 pub fn le16(bytes: &[u8], at: usize) -> MaybeU16
     ensures read { λ r. ⌜ r ≡ le16At (now (bytes .entry)) at ⌝ }
 {
@@ -49,7 +49,7 @@ pub fn le16(bytes: &[u8], at: usize) -> MaybeU16
     MaybeU16::Some(low as u16 + 256 * (high as u16))
 }
 
-// Little-endian `u32` at `at`, or `None` where the slice is too short.
+// Returns the little-endian `u32` at `at`, or `None` if the slice is too short.
 pub fn le32(bytes: &[u8], at: usize) -> MaybeU32
     ensures read { λ r. ⌜ r ≡ le32At (now (bytes .entry)) at ⌝ }
 {
@@ -62,7 +62,7 @@ pub fn le32(bytes: &[u8], at: usize) -> MaybeU32
     MaybeU32::Some(low as u32 + 65536 * (high as u32))
 }
 
-// The counter after `by` more, which stops at `COUNTER_MAX`.
+// Returns the counter after `by` more; it stops at `COUNTER_MAX`.
 pub fn bump(counter: u64, by: usize) -> u64
     ensures counted { λ r. ⌜ r ≡ bumped counter by ⌝ }
 {
@@ -74,7 +74,7 @@ pub fn bump(counter: u64, by: usize) -> u64
     }
 }
 
-// The smaller of two numbers.
+// Returns the smaller of two numbers.
 pub fn min(a: usize, b: usize) -> usize
     ensures chosen { λ r. ⌜ r ≡ min a b ⌝ }
 {

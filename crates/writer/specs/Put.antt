@@ -1,7 +1,7 @@
 -- Bytes put at a place of a buffer: all of them or none.
---   hasRoom out at b   the bytes b have room in the buffer out from place at on
+--   hasRoom out at b   whether the bytes b fit into the buffer out from place at on
 --   placed out at b    the answer: the place after them, or that they do not fit
---   putIn out at b     the buffer left: b over its bytes from place at on, or as it was
+--   putIn out at b     the buffer afterwards: b over its bytes from place at on, or unchanged
 use mathlib.Core.List.{List}
 use mathlib.Core.Bool.{Bool, cond}
 use Prim.Native.Nat.{ℕ, _+_}

@@ -1,16 +1,18 @@
--- What every writer of a frame answers, and the buffer that it leaves.
---   written out f             the buffer out with the frame f written: the frame, then the bytes that stood after it
+-- What every writer of a frame answers, and the buffer afterwards.
+--   written out f             the buffer out with the frame f written: f, then the bytes of out after it
 --   unless b e                the refusal e, unless the test b holds
---   refusalFor w f n          why f is not written into n bytes, if it is not: the refusal w of the value, if there is
---                             one; else 4, with the bytes needed, where f is longer
+--   refusalFor w f n          why the frame f is not written into n bytes, if it is not: the refusal w of the value, if
+--                             there is one; else 4, with the bytes needed, if f is longer
+--   answered o n              the answer: the refusal o, or n bytes written if there is none
+--   changed o new old         the buffer old if there is a refusal o, else new
 --   writeResult w f n         the answer: the bytes written, or that refusal
---   bufferAfter w f out       the buffer left: with f written, or as it was
+--   bufferAfter w f out       the buffer afterwards: with f written, or unchanged
 --   returnedWrite r           what the answer r returns, by document 01's table
---   numberOfWrite r           its number, 0 where nothing is refused
---   WriteCauses k Bad f n r   each number is given by the answer r exactly in its cause, k to a bad value; and what is
---                             returned beside it
---   framable d, frameRefusal d   "that many data bytes, 0 to 65,535": more are "a value that the reader can't give";
---                             no writer of the link frames so much
+--   numberOfWrite r           the number that it returns, 0 if nothing is refused
+--   WriteCauses k Bad f n r   the answer r gives each number exactly in its cause, k to a bad value, with the right
+--                             fields beside it
+--   framable d, frameRefusal d   "that many data bytes, 0 to 65,535": more are "a value that the reader can't give"; no
+--                             writer of the link frames so much
 use mathlib.Core.Path.{_≡_}
 use mathlib.Core.Logic.{_↔_, _⊎_}
 use mathlib.Core.List.{List, _++_}
@@ -56,7 +58,7 @@ framable d = leb (length d) 65535
 abbrev pub frameRefusal : List ℕ → Option Error
 frameRefusal d = unless (framable d) Unrepresentable
 
--- "number, other fields 0", "number and bytes needed": no bytes are told as written beside a refusal
+-- "number, other fields 0", "number and bytes needed": beside a refusal no bytes count as written
 abbrev pub returnedWrite : WriteResult → Returned ℕ
 returnedWrite (Ok n) = accepted n
 returnedWrite (Err e) = refused 0 e
@@ -67,11 +69,11 @@ numberOfWrite r = returnedWrite r .number
 pub record WriteCauses (k : ℕ) (Bad : Type 0) (f : List ℕ) (n : ℕ) (r : WriteResult) : Type 0 where
   -- nothing is refused exactly if the value is good and the frame fits
   pub accepted : numberOfWrite r ≡ 0 ↔ (Bad → ⊥) × (length f ≤ n)
-  -- the value's number is given exactly if it is bad, whatever the buffer
+  -- the value's number is given exactly if the value is bad, whatever the buffer
   pub refused : numberOfWrite r ≡ k ↔ Bad
   -- 4 is given exactly if the value is good and the buffer is shorter than the frame
   pub short : numberOfWrite r ≡ 4 ↔ (Bad → ⊥) × (n < length f)
-  -- nothing else is returned than the bytes written; or that number, "other fields 0"; or 4 "and bytes needed"
+  -- what is returned is the bytes written; or that number, "other fields 0"; or 4 "and bytes needed"
   pub returned : (returnedWrite r ≡ record { number = 0; needed = 0; value = length f })
       ⊎ ((returnedWrite r ≡ record { number = k; needed = 0; value = 0 })
       ⊎ (returnedWrite r ≡ record { number = 4; needed = length f; value = 0 }))

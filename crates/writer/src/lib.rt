@@ -1,4 +1,4 @@
-// A whole frame put into the caller's buffer, and what every writer of frames answers.
+// A whole frame put into the caller's buffer, and the answer of every writer of frames.
 mod puts;
 
 pub use puts::Placed;
@@ -17,18 +17,18 @@ ghost use lib.ListN.{length};
 ghost use Rattle.wire.specs.Family.{framed};
 ghost use Rattle.writer.specs.Written.{writeResult, bufferAfter, frameRefusal, framable, WriteCauses};
 
-// Most data bytes that a frame's length can say.
+// Most data bytes that a frame's length can count.
 const MAX_LENGTH: usize = 65_535;
 
-// What a writer answers: the bytes written, or the refusal.
+// The number of bytes written, or the refusal.
 pub enum WriteResult {
     Ok(usize),
     Err(Error),
 }
 
-// Puts the frame of a family with the data at the front: header, length, data, tail. Refuses with 6 data that no length
-// can say, since no reader gives them, then with 4 a buffer shorter than the frame. Bytes after the frame stay. It is
-// public for the other crates of the link alone, and no writer of the link frames so much.
+// Puts a frame of this kind with these data at the front: header, length, data, tail. Refuses with 6 data that no
+// length can count, since no reader gives them, then with 4 a buffer shorter than the frame. Bytes after the frame
+// stay. It is public only for the other crates of the link, and none of their writers frames so many data.
 pub fn put_frame(out: &mut [u8], kind: Kind, data: &[u8]) -> WriteResult
     ensures told { λ r. ⌜ r ≡ writeResult (frameRefusal (now («data» .entry))) (framed kind (now («data» .entry)))
         (length (now (out .entry))) ⌝ }
@@ -44,7 +44,7 @@ pub fn put_frame(out: &mut [u8], kind: Kind, data: &[u8]) -> WriteResult
     if out.len() < needed {
         return WriteResult::Err(Error::BufferTooSmall { needed });
     }
-    // There is room for the whole frame, so each put below finds its place.
+    // The whole frame fits, so each put below finds its place.
     let header = header_of(kind);
     put(out, 0, &header);
     put_u16(out, 4, data.len() as u16);

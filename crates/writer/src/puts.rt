@@ -1,19 +1,19 @@
-// Bytes and numbers put at a place of the caller's buffer, each as a whole or not at all.
+// Bytes and numbers put at a place of the caller's buffer, each whole or not at all.
 //
-// Every function is total: a place past the end, or too little room, is a variant of its answer, and changes no byte.
+// Every function is total: a put past the end, or with too little space, answers `TooSmall` and changes no byte.
 use wire::copy_at;
 ghost use mathlib.Core.Path.{_≡_};
 ghost use mathlib.Core.List.{_++_};
 ghost use Rattle.wire.specs.Number.{leBytes};
 ghost use Rattle.writer.specs.Put.{placed, putIn};
 
-// Where a put ended: the place after the bytes, or that they do not fit from its place on.
+// The place after the bytes of a put, or that they do not fit.
 pub enum Placed {
     End(usize),
     TooSmall,
 }
 
-// The two bytes of a number, the least first.
+// Returns the two bytes of a number, the lowest first.
 pub fn u16_bytes(v: u16) -> [u8; 2]
     ensures little { λ r. ⌜ r ≡ leBytes 2 v ⌝ }
 {
@@ -22,7 +22,7 @@ pub fn u16_bytes(v: u16) -> [u8; 2]
     [low, high]
 }
 
-// The four bytes of a number, the least first.
+// Returns the four bytes of a number, the lowest first.
 fn u32_bytes(v: u32) -> [u8; 4]
     ensures little { λ r. ⌜ r ≡ leBytes 4 v ⌝ }
 {
@@ -34,7 +34,7 @@ fn u32_bytes(v: u32) -> [u8; 4]
     ]
 }
 
-// Puts the bytes at place `at`. Where they do not all fit, no byte changes.
+// Puts the bytes at place `at`. If they do not all fit, no byte changes.
 pub fn put(out: &mut [u8], at: usize, bytes: &[u8]) -> Placed
     ensures told { λ r. ⌜ r ≡ placed (now (out .entry)) at (now (bytes .entry)) ⌝ }
     ensures left { λ _. ⌜ now (out .exit) ≡ putIn (now (out .entry)) at (now (bytes .entry)) ⌝ }

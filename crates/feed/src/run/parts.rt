@@ -1,5 +1,5 @@
-// The run of a slice: a loop for the data, and one for the parts of a frame that are stored nowhere, so that a byte
-// moves no more than it must.
+// The run of a slice: one loop for the data, and one for the parts of a frame that are not stored, so that a byte moves
+// no more than it must.
 use super::continued;
 use super::step_data;
 use super::step_header;
@@ -27,7 +27,7 @@ ghost use Rattle.step.specs.Slice.{runOf};
 ghost use Rattle.step.specs.Phase.{AtState, PartialRun, DataRun};
 ghost use Rattle.scan.specs.declared.State.the-variants.{Data};
 
-// Takes data bytes, all that are due or there: none outside the data.
+// Takes the data bytes that are due, or as many as come; none if the scan is not in the data.
 fn take_data(
     buf: &mut [u8; MAX_FRAME],
     scan: Scan,
@@ -60,8 +60,8 @@ fn take_data(
     }
 }
 
-// Takes the bytes of a part that is stored nowhere: a header, a length or a tail. The arm of the data is never taken; a
-// step of its own there costs the others nothing. Only a tail leads to a tail, so there no state is compared.
+// Takes the bytes of a part that is not stored: a header, a length or a tail. The arm for data is never taken; a step
+// of its own there costs the others nothing. Only a tail leads to a tail, so the arm for it compares no state.
 fn take_part(scan: Scan, stats: Stats, bytes: &[u8], from: usize) -> Scanned
     requires { ⌜ AtState linkLimit (scan .state) scan (now bytes) from × (scan .state ≡ Data → ⊥) ⌝ }
     ensures partial { λ r. ⌜ ((buf : List ℕ) → PartialRun linkLimit scan stats buf (now (bytes .entry)) from r buf) ⌝ }
@@ -102,7 +102,7 @@ fn take_part(scan: Scan, stats: Stats, bytes: &[u8], from: usize) -> Scanned
     }
 }
 
-// Takes one byte at least, and all that the state goes on with.
+// Takes at least one byte: data bytes that are due, then the bytes of one part that is not stored.
 fn take_some(
     buf: &mut [u8; MAX_FRAME],
     scan: Scan,
@@ -124,7 +124,7 @@ fn take_some(
     take_part(at, now, bytes, i)
 }
 
-// Takes the bytes up to and with the first that ends a frame.
+// Takes the bytes up to and including the first that ends a frame, else all of them.
 fn scan_slice(buf: &mut [u8; MAX_FRAME], scan: Scan, stats: Stats, bytes: &[u8]) -> Scanned
     requires { ⌜ wellFormed linkLimit scan ≡ true ⌝ }
     ensures run { λ r. ⌜ (r ≡ runOf linkLimit scan stats (now (buf .entry)) (now (bytes .entry)) .scanned)
@@ -158,8 +158,8 @@ fn scan_slice(buf: &mut [u8; MAX_FRAME], scan: Scan, stats: Stats, bytes: &[u8])
     }
 }
 
-// The bytes of a slice, up to and with the first that ends a frame. A scan with a number out of range is handled as if
-// reset came first.
+// Takes the bytes of a slice up to and including the first that ends a frame. A scan with a number out of range is
+// handled as if reset came first.
 pub(crate) fn run_at(buf: &mut [u8; MAX_FRAME], scan: Scan, stats: Stats, bytes: &[u8]) -> Scanned
     ensures run { λ r. ⌜ (let run = runOf linkLimit (orReset linkLimit scan) stats (now (buf .entry))
         (now (bytes .entry))
