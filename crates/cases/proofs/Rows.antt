@@ -3,8 +3,6 @@
 use mathlib.Core.Path.{_≡_, refl, subst, ap}
 use mathlib.Core.List.{List, _++_, map}
 use mathlib.Core.Bool.{Bool, true, not}
-use Prim.Native.Nat.{ℕ}
-use native.Mathlib.Omega.{arith}
 use lib.ListN.{length}
 use borrow.Author.Tests.{not-true}
 use Rattle.refusal.specs.declared.Error.the-variants.{UnknownCommand}
@@ -50,7 +48,8 @@ use Rattle.session.specs.Machine.{Response, Conversation}
 use Rattle.session.specs.Claims.{sessionCall}
 use Rattle.session.proofs.Moved.{any-run}
 use Rattle.cases.specs.Row.{Numbers, addedUp, countedBy, Stream, StreamHolds, Run, RunHolds}
-use Rattle.cases.specs.Row.{CommandRow, encodes, parses, CommandHolds, Talk, TalkHolds, stream, run, command, talk, Holds}
+use Rattle.cases.specs.Row.{CommandRow, encodes, parses, CommandHolds, Talk, TalkHolds}
+use Rattle.cases.specs.Row.{stream, run, command, talk, Holds}
 use Rattle.cases.specs.Streams.{streams}
 use Rattle.cases.specs.Runs.{runs}
 use Rattle.cases.specs.Commands.{commands}

@@ -16,7 +16,6 @@ use lib.ListN.{length}
 use Rattle.refusal.specs.Refusal.{Returned}
 use Rattle.writer.specs.Written.{written}
 use Rattle.report.specs.Report.{noReport}
-use Rattle.frame.specs.declared.Frame.{Frame}
 use Rattle.frame.specs.declared.FrameKind.the-variants as Is
 use Rattle.command.specs.declared.setting.Baud.the-variants.{B115200}
 use Rattle.command.specs.declared.setting.Gate.the-variants.{All}

@@ -6,7 +6,8 @@ use mathlib.Core.List.{List, _∷_, _++_, List·Memᴰ}
 use Prim.Native.Nat.{ℕ}
 use Rattle.engine.specs.Runs as Runs
 use Rattle.wire.specs.Bytes.{Byte, Bytes}
-use Rattle.engine.specs.Calls.{feed, slice, reset, ByteCall, Goes, Did, Took, taken, takenBy, stretches, soFar, upToReset}
+use Rattle.engine.specs.Calls.{feed, slice, reset, ByteCall, Goes}
+use Rattle.engine.specs.Calls.{Did, Took, taken, takenBy, stretches, soFar, upToReset}
 use Rattle.engine.specs.Fulfilled.{joinOver}
 
 -- On any machine, the calls ds after the calls cs do what ds do from the state that cs left.

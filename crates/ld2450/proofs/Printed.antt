@@ -10,7 +10,15 @@ use Rattle.ld2450.specs.Claims.{Examples, WrittenExample}
 
 pub examples : Examples
 unfolding sameBytes signedOf targetOf isFrame parsedTargets
-examples = record { minus = refl; plus = refl; clear-zero = refl; set-zero = refl; still = refl; read = refl; each = refl }
+examples = record {
+  minus = refl;
+  plus = refl;
+  clear-zero = refl;
+  set-zero = refl;
+  still = refl;
+  read = refl;
+  each = refl;
+}
 
 pub written-example : WrittenExample
 unfolding targetBytes

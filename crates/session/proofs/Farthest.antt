@@ -1,14 +1,11 @@
 -- A `SetMaxGates` in a session: 2 exactly if the session is open and one of its gates is outside the module's range.
 use mathlib.Core.Path.{_≡_, refl, sym, ap, _∙_}
-use mathlib.Core.Logic.{_⊎_}
 use mathlib.Core.Bool.{false}
-use Prim.Native.Nat.{ℕ, _≤_}
+use Prim.Native.Nat.{ℕ}
 use native.Mathlib.Omega.{arith}
 use Rattle.refusal.specs.Refusal.{Returned}
 use Rattle.command.specs.Command.{wordOf, encodable}
-use Rattle.command.specs.Claims.{Outside}
 use Rattle.command.specs.declared.Command.{Command}
-use Rattle.command.specs.declared.Command.the-variants.{SetMaxGates}
 use Rattle.command.proofs.Farthest.{unsupported-gates}
 use Rattle.session.specs.declared.Session.{Session}
 use Rattle.session.specs.declared.Session.the-variants.{Open}
