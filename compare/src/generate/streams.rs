@@ -56,6 +56,11 @@ pub fn base_streams() -> [Vec<u8>; 3] {
     ]
 }
 
+/// A slice of more than 4,096 bytes: stray bytes, a frame, and a byte after it.
+pub fn long_slice(frame: &[u8]) -> Vec<u8> {
+    [&[0x55; 5000], frame, &[0x55]].concat()
+}
+
 /// Every byte a call.
 pub fn by_bytes(stream: &[u8]) -> Vec<u8> {
     script(&stream.iter().map(|&byte| Call::Feed(byte)).collect::<Vec<_>>())

@@ -7,7 +7,7 @@ use crate::generate::ld2450::streams::{base_streams, by_slices};
 use crate::generate::ld2450::values::{argument, presences, value, values as some_values, with_field, VALUE};
 use crate::generate::ld2450::{any_frame, frame, holding, plain, printed, ENDS};
 use crate::generate::random::Random;
-use crate::generate::streams::by_bytes;
+use crate::generate::streams::{by_bytes, long_slice};
 use crate::model::ld2450::frames::{DATA, DATA_END, FRAME, HEADER, TAIL, TARGET};
 use crate::published;
 use crate::script::{script, Call};
@@ -88,6 +88,7 @@ pub fn scripts(random: &mut Random) -> Vec<Vec<u8>> {
     all.extend(good_frames().map(|frame| script(&[Call::Slice(&frame), Call::Slice(&[]), Call::Slice(&frame)])));
     all.extend(bytes_alone());
     all.push(by_slices(&printed().repeat(257), || FRAME));
+    all.push(script(&[Call::Slice(&long_slice(&printed()))]));
     let calls = [Call::Slice(&printed()[..9]), Call::Feed(0x00), Call::Reset, Call::Feed(0xAA), Call::Slice(&plain())];
     let whole = script(&calls);
     all.extend([1, 2, 20, 32, 33, 34, 35].map(|missing| whole[..whole.len() - missing].to_vec()));

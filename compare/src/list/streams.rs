@@ -7,7 +7,7 @@ use crate::generate::damage::plain_damage;
 use crate::generate::parsers::{after, argument, broken_starts, counting_from};
 use crate::generate::random::Random;
 use crate::generate::reports::STATES;
-use crate::generate::streams::{base_streams, by_bytes, by_slices, mixed_calls, stream};
+use crate::generate::streams::{base_streams, by_bytes, by_slices, long_slice, mixed_calls, stream};
 use crate::model::families::{COMMAND, REPORT};
 use crate::oracle::readers::STATE_IN_FRAME;
 use crate::published;
@@ -67,6 +67,7 @@ pub fn scripts(random: &mut Random) -> Vec<Vec<u8>> {
         all.push(script(&[Call::Slice(&row)]));
     }
     all.push(script(&[Call::Slice(&[0xF4, 0xF3]), Call::Reset]));
+    all.push(script(&[Call::Slice(&long_slice(&published::bytes(published::B)))]));
     all.extend(states());
     all.extend(limits().iter().map(|stream| by_slices(stream, || 80)));
     all.extend(published::all().iter().map(|frame| script(&[Call::Slice(frame)])));
@@ -93,6 +94,7 @@ pub fn scripts(random: &mut Random) -> Vec<Vec<u8>> {
 pub fn lent_scripts() -> Vec<Vec<u8>> {
     let mut all: Vec<_> = rows().iter().map(|row| script(&[Call::Slice(row)])).collect();
     all.push(by_bytes(&published::bytes(published::B)));
+    all.push(script(&[Call::Slice(&long_slice(&published::bytes(published::B)))]));
     all.extend(states());
     all.push(script(&[Call::Slice(&[0x00, 0xF4, 0xF3]), Call::Reset, Call::Feed(0xF4), Call::Slice(&[])]));
     all.push(script(&[Call::Slice(&broken_frame_that_holds_b())]));

@@ -62,16 +62,12 @@ fn useless_versions(op: u8) -> Vec<Mutant> {
                 closing[3] = taken;
             }
         }),
-        Mutant::lines(op, "a slice's first byte is handled and the rest claimed", |argument, lines| {
-            let first_bytes: Vec<_> = calls(argument).map(first_byte).collect();
-            let mut wrong = right(10, &script(&first_bytes));
-            for (line, call) in wrong.iter_mut().zip(calls(argument)) {
-                if let Call::Slice(bytes) = call {
-                    line[1] = bytes.len() as u64;
-                }
-            }
-            for (line, wrong) in lines.iter_mut().zip(wrong) {
-                line.splice(1.., wrong.into_iter().skip(1));
+        claimed(op, "a slice's first byte is handled and the rest claimed", |bytes| &bytes[..bytes.len().min(1)]),
+        claimed(op, "a slice above 4,096 bytes is claimed and not handled", |bytes| {
+            if bytes.len() > 4096 {
+                &[]
+            } else {
+                bytes
             }
         }),
         Mutant::lines(op, "a slice is taken whole though a frame ends in it", |argument, lines| {
@@ -105,9 +101,27 @@ fn useless_versions(op: u8) -> Vec<Mutant> {
     ]
 }
 
-fn first_byte(call: Call<'_>) -> Call<'_> {
+/// A variant that handles a part of each slice, and tells all of it as taken.
+fn claimed(op: u8, mistake: &str, part: fn(&[u8]) -> &[u8]) -> Mutant {
+    Mutant::lines(op, mistake, move |argument, lines| {
+        let parts: Vec<_> = calls(argument).map(|call| handled(call, part)).collect();
+        let mut wrong = right(10, &script(&parts));
+        for ((line, call), taken) in wrong.iter_mut().zip(calls(argument)).zip(&parts) {
+            if let (Call::Slice(bytes), Call::Slice(part)) = (call, taken) {
+                if bytes.len() > part.len() {
+                    line[1] = bytes.len() as u64;
+                }
+            }
+        }
+        for (line, wrong) in lines.iter_mut().zip(wrong) {
+            line.splice(1.., wrong.into_iter().skip(1));
+        }
+    })
+}
+
+fn handled(call: Call<'_>, part: fn(&[u8]) -> &[u8]) -> Call<'_> {
     match call {
-        Call::Slice(bytes) => Call::Slice(&bytes[..bytes.len().min(1)]),
+        Call::Slice(bytes) => Call::Slice(part(bytes)),
         call => call,
     }
 }

@@ -2,6 +2,7 @@
 -- are one event: what is answered, and where it leads.
 --   ack w on       the module's acknowledgement of the word w, with `ok` on or off
 --   report         a report that comes between
+--   mixed          a report made by hand, with the acknowledgement of `EnableConfig` beside it
 --   numberOnly k   "returned with the answer's other fields 0"
 --   wrote n        nothing is refused, and n bytes are written
 --   restartFrame, resetFrame, macFrame   the frames of `Restart`, `FactoryReset` and `ReadMac`
@@ -41,6 +42,13 @@ ack w on = frame (record {
 
 abbrev report : Event
 report = frame bReport
+
+abbrev mixed : Event
+mixed = frame (record {
+  kind = Is.Report;
+  report = bReport .report;
+  ack = record { word = 0x00FF; ok = true; status = 0; payload = record { start = 4; len = 0 } };
+})
 
 abbrev numberOnly : ℕ → Returned ℕ
 numberOnly k = record { number = k; needed = 0; value = 0 }
@@ -119,6 +127,7 @@ singles =
     ∷ passing Closed report
     ∷ passing Open report
     ∷ passing Opening report
+    ∷ passing Opening mixed
     ∷ passing Closing report
     -- "The station may give up a wait, which closes the session; giving up with no wait on changes nothing"
     ∷ row Opening give-up gave-up Closed

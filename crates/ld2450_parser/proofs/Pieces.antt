@@ -34,4 +34,11 @@ broken-frames d n c t ps l some u o ne rest =
 
 pub shown : Shown fresh
 unfolding orReset dueAt abandoned started whereDue stepOf stored answerIf stepped runOf feedSliceOf unfinishedOf bumped
-shown = record { divided = division-exists link oneOfEach; answered = refl; counted = refl; cut-off = refl }
+shown = record {
+  divided = division-exists link oneOfEach;
+  answered = refl;
+  counted = refl;
+  cut-off = refl;
+  wide = refl;
+  full = refl;
+}

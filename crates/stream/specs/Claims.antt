@@ -24,7 +24,7 @@ use Rattle.stream.specs.Length.{InRange}
 use Rattle.stream.specs.Open.{Open, Whole}
 use Rattle.stream.specs.Deliver.{Answer, decodes, countedIn, payloadOf, delivered, Counter, adds}
 use Rattle.stream.specs.Protocol.{ld2410}
-use Rattle.stream.specs.Recovery.{Recovers, FoundInStretch, Regains, Lost}
+use Rattle.stream.specs.Recovery.{Clean, Sendable, Recovers, FoundInStretch, Regains, Lost}
 
 -- A whole frame that is made of bytes is `framed k d`, for a family k and data d of a length in range.
 unfoldable pub WholeFramed : Type 0
@@ -117,6 +117,11 @@ unfoldable pub DeliversWhole : Type 0
 DeliversWhole = (limit : ℕ) (s : List ℕ) (w : Whole limit s) (r : List ℕ) → Bytes s
     → let x = decoded 4 (w .kind) (w .held) .frame in
     _≡_ {A = Answer} (delivered s) (x, payloadOf x (w .held ++ r))
+
+-- Request 5 is about every frame with "lengths 2 to 54, none with F4 or FD among its data bytes", of either kind.
+unfoldable pub AnyClean : Type 0
+AnyClean = (k : Kind) (d : List ℕ) → 2 ≤ length d → length d ≤ 54 → Every (λ b. (b ≢ 0xF4) × (b ≢ 0xFD)) d
+    → Clean 54 (framed k d) × Sendable 54 (k, d)
 
 -- Request 5, for every largest length up to 512: a parser that fulfils demand 3 recovers, whatever is pending. States
 -- are lists of numbers here, since a contract can hold no statement about all types.

@@ -9,7 +9,7 @@ ghost use Rattle.stream.specs.Claims.{DividesOnce, DivisionSpelled, Divi
 ghost use Rattle.stream.specs.Claims.{DivisionAppend, TotalAppend, EndsForGood, ResyncsBound, ResyncsReached};
 ghost use Rattle.stream.specs.Claims.{BadLength, BrokenTail};
 ghost use Rattle.stream.specs.Claims.{DecodesWhole, DeliversWhole, DeliversParsed};
-ghost use Rattle.stream.specs.Claims.{AnyRecovers, AnyFound, AnyRegains, NotSooner, NotSoonerAt244};
+ghost use Rattle.stream.specs.Claims.{AnyClean, AnyRecovers, AnyFound, AnyRegains, NotSooner, NotSoonerAt244};
 
 // Pins that a whole frame is what framing its data gives, and that a stray byte is neither F4 nor FD.
 fn framing_claims()
@@ -46,6 +46,7 @@ fn delivery_claims()
 
 // Pins how soon the stream is read right again, and that one byte less is not enough.
 fn recovery_claims()
+    ensures clean { λ _. ⌜ AnyClean ⌝ }
     ensures recovers { λ _. ⌜ AnyRecovers ⌝ }
     ensures found { λ _. ⌜ AnyFound ⌝ }
     ensures regains { λ _. ⌜ AnyRegains ⌝ }

@@ -72,7 +72,7 @@ fn told(call: Call<'_>, line: &mut [u64], delivered: bool, change: fn(u64, u64) 
 
 type Others = for<'a> fn(Call<'a>) -> Vec<Call<'a>>;
 
-const AFRESH: [(&str, Others); 7] = [
+const AFRESH: [(&str, Others); 8] = [
     ("a slice begins afresh", |call| match call {
         Call::Slice(_) => vec![Call::Reset, call],
         _ => vec![call],
@@ -95,6 +95,10 @@ const AFRESH: [(&str, Others); 7] = [
     }),
     ("a slice's last byte is claimed and not handled", |call| match call {
         Call::Slice([bytes @ .., _]) => vec![Call::Slice(bytes)],
+        _ => vec![call],
+    }),
+    ("a slice above 4,096 bytes is claimed and not handled", |call| match call {
+        Call::Slice(bytes) if bytes.len() > 4096 => vec![Call::Slice(&[])],
         _ => vec![call],
     }),
     ("a slice of one byte is not handled", |call| match call {
