@@ -1,4 +1,4 @@
--- What an acknowledgement's data are read as: by the checks that hold, and by the numbers that the data begin with.
+-- What the data of an acknowledgement are read as, by the checks that hold and the numbers at their front.
 use mathlib.Core.Path.{_≡_, refl, sym, ap, _∙_}
 use mathlib.Core.List.{List}
 use Prim.Native.Nat.{ℕ, _-_, _/_, _%_, _≤_, _<_}
@@ -24,7 +24,7 @@ use Rattle.ack.specs.declared.CheckedAck.{CheckedAck}
 use Rattle.ack.specs.declared.CheckedAck.the-variants as Checked
 use Rattle.ack.specs.declared.AckResult.{AckResult}
 
--- The answer tells which check failed first, or that none did.
+-- The answer shows which check failed first, or that none did; and what is returned for it.
 as-ok : (o : MaybeCheck) (b : Ack) {a : Ack} → checkedAs o b ≡ Checked.Ok a → (o ≡ Maybe.None) × (a ≡ b)
 as-ok (Maybe.Some c) b e = let z : _≡_ {A = ℕ} 0 1 = cc in absurd (omega arith)
 as-ok Maybe.None b e = (refl, cc)
@@ -54,7 +54,7 @@ module _ (s : List ℕ) where
   unfolding checkedAck
   failed-sound e = as-failed (firstFailed ackChecks s) (ackOf s) e
 
-  -- By the number of bytes, and by the bit.
+  -- From the number of bytes, and from the bit 0100.
   pub checked-short : length s < 4 → Checked.Failed A1 ≡ checkedAck s
   checked-short h = sym (failed-complete (rw (lt-leb 4 (length s) h)))
 
@@ -64,7 +64,7 @@ module _ (s : List ℕ) where
       let a2 = eq-eqb (wordIn s / 0x0100 % 2) 1 (omega arith) in
       passed-complete (rw (a1, a2))
 
-  -- By the numbers w and t that the answers o and p are, to its word and to its status.
+  -- From the word w and the status t, which are in the code's answers o and p.
   module _ (o p : MaybeU16) (w t : ℕ) (eo : o ≡ le16At s 0) (ow : o ≡ U16.Some w) (ep : p ≡ le16At s 2)
       (pt : p ≡ U16.Some t) where
     word : w ≡ wordIn s

@@ -1,4 +1,4 @@
--- Awaiting an acknowledgement, with the cause of each number; and its reply, whichever it is, by what `expect` answers.
+-- Awaiting an acknowledgement, with the cause of each number; and any reply, from the answer of `expect`.
 use mathlib.Core.Path.{_≡_, refl, sym, _∙_}
 use mathlib.Core.Logic.{_≢_, inl, inr, ⊎-elim}
 use mathlib.Core.List.{List}
@@ -24,7 +24,7 @@ use Rattle.ack.specs.declared.SpanResult.the-variants as Spanned
 clash : {A : Type 0} {b : Bool} → b ≡ true → b ≡ false → A
 clash e f = absurd (true≢false (sym e ∙ f))
 
--- What `expect` answers tells how every reply is judged.
+-- The answer of `expect` decides how every reply is judged.
 judged-ok : (same ok : Bool) (p : Span) {q : Span} → spanAs (judged same ok true) p ≡ Spanned.Ok q
     → ((readable : Bool) → judged same ok readable ≡ judged true true readable) × (q ≡ p)
 judged-ok false ok p e = let z : _≡_ {A = ℕ} 0 1 = cc in absurd (omega arith)
@@ -77,7 +77,7 @@ module _ (a : Ack) (w : ℕ) {A : Type 0} (z v : A) where
         blank = λ n. absurd (n refl);
       }
 
-  -- Whoever awaits a word gives each number exactly in its cause, and 0 in every other field.
+  -- A call that awaits a word gives each number exactly in its cause; beside a refusal every other field is 0.
   pub awaited-causes : (readable : Bool) → AwaitedCauses z a w readable (returned z (awaited a w readable) v)
   unfolding awaited
   awaited-causes readable = judged-causes (eqb (a .word) w) (a .ok) readable refl refl
@@ -100,15 +100,15 @@ module _ (a : Ack) (w : ℕ) where
   span-returned Ok = refl
   span-returned (Err e) = refl
 
-  -- Both clauses of its contract.
+  -- Both clauses of the contract of `expect`.
   pub expected-whole : {r : SpanResult} → expected a w ≡ r
       → (r ≡ expected a w) × AwaitedCauses noSpan a w true (returnedSpan r)
   unfolding expected
   expected-whole e =
       (sym e, rw (← e, span-returned (awaited a w true)) (awaited-causes a w noSpan (a .payload) true))
 
--- The answer to an acknowledgement, by what `expect` answers: where it gives the payload, this is read; where it
--- refuses, so does the reply.
+-- The reply b in an acknowledgement, from the answer x of `expect`: if x gives the payload, b is read from it; if x
+-- refuses, so does b.
 module _ {A B : Type 0} (answer : Outcome → A → B) (r : Reply A) (a : Ack) (s : List ℕ) (x : SpanResult) (b : B) where
   pub replied-read : (p : Span) (q : List ℕ) → x ≡ expected a (r .word) → x ≡ Spanned.Ok p → q ≡ payloadIn s p
       → b ≡ readAs answer r q → b ≡ replied answer r a s
@@ -124,7 +124,7 @@ module _ {A B : Type 0} (answer : Outcome → A → B) (r : Reply A) (a : Ack) (
       let told = judged-err (eqb (a .word) (r .word)) (a .ok) (a .payload) (sym q ∙ t) in
       rw (g, f, t, told (r .readable (payloadIn s (a .payload))))
 
--- Both clauses of its contract, where `give` tells what an answer returns.
+-- Both clauses of a reply's contract; `give` is what an answer returns.
 pub replied-whole : {A B : Type 0} (z : A) (answer : Outcome → A → B) (give : B → Returned A)
     → ((o : Outcome) (v : A) → give (answer o v) ≡ returned z o v)
     → (r : Reply A) (a : Ack) (s : List ℕ) {b : B} → b ≡ replied answer r a s

@@ -1,7 +1,7 @@
 -- Laws about the definitions, which the proofs of this crate and of the crates above cite.
--- What an acknowledgement's data are read as, by their checks.
+-- What the data of an acknowledgement are read as.
 pub mod AckChecked
--- Awaiting an acknowledgement and reading its reply, whichever it is.
+-- Awaiting an acknowledgement, and reading any reply in it.
 pub mod Awaiting
--- A payload inside the bytes, and one that is not.
+-- A payload inside the given bytes, and one outside.
 pub mod Spans

@@ -1,4 +1,4 @@
--- A payload inside the bytes, and one that is not.
+-- A payload inside the given bytes, and one outside.
 use mathlib.Core.Path.{_≡_}
 use mathlib.Core.List.{List, []}
 use Prim.Native.Nat.{ℕ, _+_, _≤_, _<_}

@@ -1,5 +1,5 @@
--- The data of an acknowledgement: their length, that three puts lay them at the front of an array, what is read of
--- them, and that data are made again of what is read of them.
+-- The data of an acknowledgement: their length, the three puts that lay them out in an array, what is read from them,
+-- and that data come back from what is read.
 use mathlib.Core.Path.{_≡_, refl}
 use mathlib.Core.List.{List, _++_}
 use Prim.Native.Nat.{ℕ, _+_, _-_, _/_, _%_, _≤_, _<_}

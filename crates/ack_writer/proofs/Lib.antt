@@ -1,5 +1,5 @@
 -- Laws about the definitions, which the proofs of this crate cite.
--- The data of an acknowledgement, put, read and made again.
+-- The data of an acknowledgement: put, read, and made again.
 pub mod AckData
--- What is written is read back, and what is read is written again.
+-- A written value is read back, and a read one, within limits, is written again.
 pub mod RoundTrip

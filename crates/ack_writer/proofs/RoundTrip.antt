@@ -1,5 +1,4 @@
--- What is written is read as the value that was written, and what is read is written as the frame that it was read
--- from.
+-- A value comes back from its frame, and a frame of at most 54 data bytes from its value.
 use mathlib.Core.Path.{_≡_, refl, sym, ap, _∙_}
 use mathlib.Core.List.{List}
 use mathlib.Core.Bool.{Bool, true, false, _&&_, Bool·beq, and-eq-true-iff}
@@ -39,7 +38,7 @@ bool-same : (b : Bool) → Bool·beq b b ≡ true
 bool-same true = refl
 bool-same false = refl
 
--- What the three tests of a value say.
+-- What the three tests of a value mean.
 pub record Fit (w : ℕ) (ok : Bool) (s : ℕ) (p : List ℕ) : Type 0 where
   pub clear : w / 0x0100 % 2 ≡ 0
   pub agreed : eqb s 0 ≡ ok
@@ -62,7 +61,7 @@ module _ (w : ℕ) (ok : Bool) (s : ℕ) (p : List ℕ) where
   writable-complete h =
       rw (eq-eqb (w / 0x0100 % 2) 0 (h .clear), h .agreed, bool-same ok) (le-leb (length p) 50 (h .short))
 
--- The payload stands after the word and the status.
+-- The payload follows the word and the status.
 payload-after : (d : List ℕ) → 4 ≤ length d
     → payloadIn (framed Command d) (record { start = 10; len = length d - 4 }) ≡ drop 4 d
 payload-after d four =
@@ -89,7 +88,7 @@ reads-written w ok s p wide wide' e =
       carried = rw len at (payload-after d (omega arith)) ∙ data-payload w s p;
     }
 
--- What is read of the data d in their frame f is written as this frame.
+-- What is read from the frame f of at most `ackLimit` data bytes can be written, and gives f.
 data-frame : (f d : List ℕ) (a : Ack) → f ≡ framed Command d → startingAt 10 (ackOf d) ≡ a → Passes ackChecks d
     → Bytes d → length d ≤ ackLimit
     → (writable (a .word) (a .ok) (a .status) (payloadIn f (a .payload)) ≡ true)
@@ -113,7 +112,7 @@ module _ (w : ℕ) (ok : Bool) (s : ℕ) (p : List ℕ) where
       rw (r .carried) at
       (data-frame f (dataOf f) a (h .whole b) (ap (λ x. x .ack) (h .value)) (h .passes) d short)
 
-  -- The data of a value that may be written are within the limit.
+  -- The data of a value that can be written are within the limit.
   data-within : writable w ok s p ≡ true → length (dataOf (ackFrame w s p)) ≤ ackLimit
   data-within g =
       let l = writable-sound w ok s p g .short in

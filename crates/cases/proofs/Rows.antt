@@ -1,4 +1,4 @@
--- The rows hold. What a row should say is computed from its bytes, its calls or its command, once for each table, and
+-- The rows hold. What a row should say is computed from its bytes, calls, command or events, once for each table, and
 -- compared with what it says; that the scanner's pieces are a division is a law of the crate `framing`.
 use mathlib.Core.Path.{_≡_, refl, subst, ap}
 use mathlib.Core.List.{List, _++_, map}
@@ -106,9 +106,9 @@ runs-computed = refl
 run-holds : (r : Run) → ran r ≡ told r → RunHolds r
 run-holds r e = record { done = ap (λ (x : Ran). x .history) e; counted = ap (λ (x : Ran). x .numbers) e }
 
--- A command's row with its answer and its buffer as computed, and as it stands. A row of the reader is so if the
--- command that it gives encodes to its bytes; or, of 5, if these are the frame of a command that the module does not
--- take.
+-- A row of the encoder, with its answer and its buffer as computed, and as it says. A row of the reader holds if the
+-- command that it gives encodes to its bytes; a row with 5, if these are the frame of a command that the module does
+-- not take.
 abbrev done : CommandRow → Bool × CommandRow
 done (encodes c before answer after) = (
   true,
@@ -136,7 +136,7 @@ command-holds (parses s (Read.Err r)) e =
     let is-frame = subst IsCommandFrame same (frame-command (candidateIn s)) in
     rw h (read-unencodable s is-frame (not-true (encodable (candidateIn s)) (ap (λ x. x .0) e)))
 
--- A session's responses and where it ends, as computed and as the row says; the machine's run is the calls'.
+-- A session's responses and where it ends, as computed and as the row says; the machine runs as the calls do.
 record Spoken : Type 0 where
   pub responses : List Response
   pub left : Session
@@ -162,7 +162,7 @@ talk-holds r e = record {
   stood = ap (λ (x : Spoken). x .left) e;
 }
 
--- The table is made of the four.
+-- The whole table is these four, joined.
 pub all-hold : AllHold
 all-hold =
     every-append Holds (map stream streams) (map run runs ++ (map command commands ++ map talk talks))

@@ -1,4 +1,4 @@
--- What the encoder answers and leaves: refused for its values, or as the writer of its frame did.
+-- What the encoder answers and leaves: its refusal of the values, or what the writer of the frame gives.
 use mathlib.Core.Path.{_≡_}
 use mathlib.Core.List.{List}
 use mathlib.Core.Bool.{true, false}

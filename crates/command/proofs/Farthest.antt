@@ -1,5 +1,5 @@
--- Which farthest gates the module takes: 2 to 8, both of them; and which gates and sensitivities; and that the encoder
--- gives 2 for exactly the others.
+-- Which farthest gates the module takes (2 to 8, both of them), and which gates and sensitivities; the encoder gives 2
+-- for exactly the others.
 use mathlib.Core.Path.{_≡_, refl}
 use mathlib.Core.Logic.{_↔_, _⊎_, inl, inr, ⊎-elim, ⊎-map}
 use mathlib.Core.Bool.{Bool, true, false, _&&_, and-eq-true-iff, true≢false}
@@ -18,7 +18,7 @@ use Rattle.command.specs.declared.setting.Gate.{Gate}
 use Rattle.command.specs.declared.setting.Gate.the-variants.{Index, All}
 use Rattle.command.proofs.Frames.{gates-encodable}
 
--- Two tests fail together exactly where one of them does.
+-- A conjunction of two tests fails exactly if one of them does.
 pub and-eq-false-iff : (a b : Bool) → ((a && b) ≡ false) ↔ (a ≡ false) ⊎ (b ≡ false)
 and-eq-false-iff true b = (inr, ⊎-elim (λ t. absurd (true≢false t)) (λ f. f))
 and-eq-false-iff false b = (λ f. inl refl, λ f. refl)
@@ -43,7 +43,7 @@ module _ (m s n : ℕ) (h : n ≤ 65535) where
   pub unsupported-gates : (encodable (SetMaxGates m s n) ≡ false) ↔ Outside m ⊎ Outside s
   unsupported-gates = rw (gates-encodable m s n h) (refused-gates, gates-refused)
 
--- The encoder gives 2 to exactly these.
+-- The encoder gives 2 to a `SetMaxGates` for exactly these.
 pub farthest-gates : (c : Command) (f : List ℕ) (k : ℕ) {r : WriteResult} → WriteCauses 2 (encodable c ≡ false) f k r
     → FarthestGates c r
 farthest-gates c f k w m s n h e =
@@ -51,7 +51,7 @@ farthest-gates c f k w m s n h e =
     let b = rw e at (w .refused) in
     (λ q. g .0 (b .0 q), λ o. b .1 (g .1 o))
 
--- The same of gates and sensitivities.
+-- The same for a `SetSensitivity`.
 missing : (g : Gate) → gateKnown g ≡ false ↔ Missing g
 missing (Index i) = (leb-false i 8, lt-leb i 8)
 missing All = (λ e. absurd (true≢false e), λ h. absurd h)

@@ -18,7 +18,7 @@ pub frame-sizes : (c : Command) (n : ℕ) → n ≡ sizeWith (valueOf c)
     → (n ≡ length (commandFrame c)) × (n ≡ sizeWith (valueOf c))
 frame-sizes c n e = (e ∙ frame-size (wordOf c) (valueOf c), e)
 
--- 12 to 30 bytes.
+-- A frame has 12 to 30 bytes.
 size-bounds : (v : Value) → (12 ≤ sizeWith v) × (sizeWith v ≤ 30)
 size-bounds Of.None = (omega arith, omega arith)
 size-bounds (Of.Number v) = (omega arith, omega arith)
@@ -27,6 +27,6 @@ size-bounds (Of.Records a b c) = (omega arith, omega arith)
 pub frame-bounds : (c : Command) → (12 ≤ length (commandFrame c)) × (length (commandFrame c) ≤ 30)
 frame-bounds c = rw (frame-size (wordOf c) (valueOf c)) at (size-bounds (valueOf c))
 
--- The seconds' limit is their type's.
+-- The type of the seconds limits them, so only the gates decide.
 pub gates-encodable : (m s n : ℕ) → n ≤ 65535 → encodable (SetMaxGates m s n) ≡ (farthest m && farthest s)
 gates-encodable m s n h = rw (le-leb n 65535 h)

@@ -25,7 +25,7 @@ use Rattle.command.specs.declared.Command.the-variants.{EnableConfig, EndConfig
 use Rattle.command.specs.declared.Command.the-variants.{EngineeringMode, SetSensitivity, ReadFirmware, SetBaud}
 use Rattle.command.specs.declared.Command.the-variants.{FactoryReset, Restart, Bluetooth, ReadMac}
 
--- A number of at most one byte is the lowest byte of the number that its bytes are.
+-- A number below 256 is the low byte of the number that its two bytes make.
 pub low-byte : (x : ℕ) → x ≤ 255 → little (x % 256 ∷ x / 256 % 256 ∷ []) % 256 ≡ x
 low-byte x h = omega arith
 

@@ -1,5 +1,5 @@
--- The frames of commands, by the envelope's answer and the number at the place of the word; and that the frame around
--- data is one where they begin with a word whose ACK bit is clear.
+-- Command frames: decided by the envelope's answer and the number at the place of the word; and made around any data
+-- that begin with a word whose ACK bit is clear.
 use mathlib.Core.Path.{_≡_, ap}
 use mathlib.Core.Logic.{_↔_}
 use mathlib.Core.List.{List}
@@ -24,12 +24,12 @@ use Rattle.wire.proofs.Framed.{framed-within}
 use Rattle.frame.proofs.Framed.{opened-framed}
 use Rattle.command_reader.specs.CommandFrame.{IsCommandFrame, ackBit, wordIn, orZero, numberIn}
 
--- What is not so is not told to be.
+-- The answer `false` is right if the claim does not hold.
 never : {A : Type 0} → (A → ⊥) → (false ≡ true) ↔ A
 never h = (λ e. let z : _≡_ {A = ℕ} 0 1 = cc in absurd (omega arith), λ a. absurd (h a))
 
 module _ (s : List ℕ) where
-  -- A check that fails.
+  -- If a check fails, the string is no command frame.
   pub failed-envelope : (c : Check) → envelope s ≡ Failed c → (false ≡ true) ↔ IsCommandFrame s
   failed-envelope c e = never (λ a.
       let f = failed-first s c e in
@@ -37,7 +37,7 @@ module _ (s : List ℕ) where
       let z : _≡_ {A = ℕ} 0 1 = cc in
       omega arith)
 
-  -- A frame of the family k whose data end at i.
+  -- A frame of the kind k whose data end at i.
   module _ (k : Kind) (i : ℕ) (e : envelope s ≡ Data k i) where
     opened : Held s k i
     opened = opened-data s k i e

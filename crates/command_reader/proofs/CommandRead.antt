@@ -1,4 +1,4 @@
--- What the reader answers, by the only command that may encode to the bytes; that the rules leave no choice; and that
+-- What the reader answers, by the only command that can encode to the bytes; that the rules leave no choice; and that
 -- each number has its cause.
 use mathlib.Core.Path.{_≡_, refl, sym, ap, _∙_}
 use mathlib.Core.Logic.{_↔_, inl, inr}
@@ -47,7 +47,7 @@ word-clear Restart = refl
 word-clear (Bluetooth on) = refl
 word-clear ReadMac = refl
 
--- So every command has the frame of a command.
+-- So the frame of every command is a command frame.
 pub frame-command : (c : Command) → IsCommandFrame (commandFrame c)
 frame-command c =
     let d = dataWith (wordOf c) (valueOf c) in
@@ -81,7 +81,7 @@ module _ (s : List ℕ) where
   pub one-answer : OneAnswer s
   one-answer p q h k = one h k
 
-  -- What is not the frame of a command, and what is: the candidate, or nothing.
+  -- A string that is no command frame gets 1; for a command frame the candidate decides.
   pub read-invalid : (b : Bool) → ((b ≡ true) ↔ IsCommandFrame s) → b ≡ false → ReadTo s (Err InvalidFormat)
   read-invalid b h e = is-invalid (λ a. let t = h .1 a in let z : _≡_ {A = ℕ} 0 1 = cc in omega arith)
 
@@ -100,7 +100,7 @@ module _ (s : List ℕ) where
       go true e = rw e (is-command (candidateIn s) (encodes-sound s (candidateIn s) e))
       go false e = rw e (is-unknown a (none-encodes e))
 
-  -- The frame of a command whose values the module does not take.
+  -- A command frame whose candidate the module does not take gets 5.
   pub read-unencodable : IsCommandFrame s → encodable (candidateIn s) ≡ false → ReadTo s (Err UnknownCommand)
   read-unencodable a e = rw (unencodable s (candidateIn s) e) at (read-valid a)
 

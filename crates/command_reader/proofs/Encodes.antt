@@ -1,4 +1,4 @@
--- A command beside the bytes: whether it encodes to them, and what the encoder leaves of it.
+-- Whether a command encodes to the bytes, and what the encoder leaves in its buffer.
 use mathlib.Core.Path.{_≡_, refl, sym}
 use mathlib.Core.List.{List}
 use mathlib.Core.Bool.{Bool, true, false, and-eq-true-iff}
@@ -22,7 +22,7 @@ use Rattle.command_reader.specs.declared.CommandResult.the-variants.{Ok,
 use Rattle.command.proofs.Frames.{frame-bounds}
 
 module _ (s : List ℕ) (c : Command) where
-  -- The test is the meaning.
+  -- The test passes exactly if the command encodes to the bytes.
   pub encodes-sound : encodesTo s c ≡ true → EncodesTo c s
   encodes-sound e =
       let h = and-eq-true-iff (encodable c) (sameBytes (commandFrame c) s) .0 e in
@@ -31,7 +31,7 @@ module _ (s : List ℕ) (c : Command) where
   pub encodes-complete : EncodesTo c s → encodesTo s c ≡ true
   encodes-complete h = rw (h .0) (same-complete (commandFrame c) s (sym (h .1)))
 
-  -- What is answered where it does not, and where it does.
+  -- The answer if it does not, and if it does.
   pub unencodable : encodable c ≡ false → ifEncodesTo s c ≡ Err UnknownCommand
   unfolding ifEncodesTo
   unencodable e = rw e
@@ -44,7 +44,7 @@ module _ (s : List ℕ) (c : Command) where
   unfolding ifEncodesTo
   like-frame e f = rw (e, f)
 
--- What the encoder left: where it answers Ok, the command's frame stands at the front; 30 bytes are enough for any.
+-- If the encoder answers Ok, the command's frame is at the front of the buffer; 30 bytes are enough for any frame.
 pub record Encoded (c : Command) (left : List ℕ) (n : ℕ) : Type 0 where
   pub good : encodable c ≡ true
   pub inside : n ≤ length left

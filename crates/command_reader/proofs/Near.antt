@@ -24,7 +24,7 @@ use Rattle.command_reader.specs.declared.CommandResult.the-variants.{Err
 use Rattle.command_reader.proofs.Candidates.{low-byte}
 use Rattle.command_reader.proofs.CommandRead.{frame-command, read-unencodable, one-answer}
 
--- The number that the two lowest bytes of another are.
+-- The number that the two lowest bytes of x make.
 abbrev two : ℕ → ℕ
 two x = little (x % 256 ∷ x / 256 % 256 ∷ [])
 

@@ -20,7 +20,7 @@ use Rattle.command_reader.specs.Read.{EncodesTo, ReadTo, is-command, com
 use Rattle.command_reader.specs.declared.CommandResult.the-variants.{Ok}
 use Rattle.command_reader.proofs.CommandRead.{read-causes}
 
--- A command's frame is a byte string.
+-- The data of a command's frame are bytes.
 record-bytes : (k v : ℕ) → Bytes (recordBytes k v)
 record-bytes k v = bytes-append (leBytes 2 k) (leBytes 4 v) (bytes-leBytes 2 k) (bytes-leBytes 4 v)
 
@@ -35,7 +35,7 @@ data-bytes : (w : ℕ) (v : Value) → Bytes (dataWith w v)
 unfolding dataWith
 data-bytes w v = bytes-append (leBytes 2 w) (valueBytes v) (bytes-leBytes 2 w) (value-bytes v)
 
--- What is read as a command is what it encodes to.
+-- A command that is read encodes to the bytes it was read from.
 read-encodes : (s : List ℕ) (c : Command) → ReadTo s (Ok c) → EncodesTo c s
 read-encodes s c h = read-causes s h .read c .0 refl
 

@@ -1,4 +1,4 @@
--- Bytes fed after others are fed to what those left.
+-- Feeding bytes joined is feeding the first part and then the second.
 use mathlib.Core.Path.{_≡_, sym, ap, _∙_}
 use mathlib.Core.List.{List, _++_, map-append}
 use Prim.Native.Nat.{ℕ}

@@ -1,10 +1,10 @@
--- A slice fed is its first bytes, fed one by one.
+-- A slice feed does what its first bytes do, fed one by one.
 pub mod Slices
--- Bytes fed after others.
+-- Bytes fed in two parts.
 pub mod Appended
--- What is left of the bytes, fed from here, leaves the parser that all of them leave.
+-- The invariant of the loop of `feed_all`.
 pub mod Rest
--- What bytes leave of a parser that other bytes left.
+-- Which parsers bytes lead to.
 pub mod Reached
 -- The numbers of a parser that was fed.
 pub mod Line

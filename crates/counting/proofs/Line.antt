@@ -1,5 +1,4 @@
--- Demand 3, of a parser fed with some bytes one by one: its numbers are those of their division. From fresh, they are
--- those of the line.
+-- By demand 3, the numbers of a parser fed bytes one by one are those of their division; from fresh they are a `Line`.
 use mathlib.Core.Path.{_∙_, ap}
 use mathlib.Core.List.{List, [], _++_}
 use Prim.Native.Nat.{ℕ}

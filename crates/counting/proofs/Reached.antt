@@ -1,4 +1,4 @@
--- What can be reached by bytes: a parser itself, what more bytes leave of what some left, and what a read leaves.
+-- Which parsers bytes lead to: the parser itself, what further bytes lead to, and what a read leaves.
 use mathlib.Core.Path.{_≡_, sym, ap, _∙_}
 use mathlib.Core.List.{List, [], _++_}
 use Prim.Native.Nat.{ℕ}
@@ -25,7 +25,7 @@ reached-on p q r h k = record {
   fed = k .fed ∙ ap (λ (x : Parser). left x (feeds (k .bytes))) (h .fed) ∙ sym (left-append p (h .bytes) (k .bytes));
 }
 
--- The first n bytes of a buffer, fed.
+-- A read of n bytes feeds the first n bytes of the buffer.
 pub turned-by : (p q : Parser) (n : ℕ) (buf : List ℕ) (got : ℤ) → n ≡ clamped got (length buf)
     → q ≡ left p (feeds (take n buf)) → Bytes (take n buf)
     → (_≡_ {A = Turn} (record { parser = q; more = ltb 0 n }) (turnOf p buf got))

@@ -1,6 +1,6 @@
--- Bytes fed by slices in turn: what is left of them, fed one by one from here, leaves what all of them leave.
---   Rest p q bs i   the parser q stands after the first i of the bytes bs, which are fed to p
---   handed buf m    the parser that the parts left make up, beside the answer of a slice feed
+-- Bytes fed slice by slice: the remaining ones, fed one by one from here, leave what all of them leave.
+--   Rest p q bs i   the bytes bs after the first i leave of q what all of bs leave of p
+--   handed buf m    the parser made of the parts that a slice feed left, and its answer
 use mathlib.Core.Path.{_≡_, refl, _∙_}
 use mathlib.Core.List.{List}
 use Prim.Native.Nat.{ℕ, _+_, _≤_, _<_}
@@ -43,7 +43,7 @@ module _ (p q : Parser) (bs : List ℕ) (i : ℕ) (h : Rest p q bs i) where
   pub rest-end : length bs ≤ i → q ≡ left p (feeds bs)
   rest-end l = rw (drop-of-length-le bs l) at (h .same)
 
-  -- A slice feed of what is left takes some of it, and goes on from there.
+  -- A slice feed of the remaining bytes takes at least one, and the invariant holds after it.
   module _ (inner : i < length bs) (bytes : (j : ℕ) → getD bs j 0 < 256) (fed : FedSlice)
       (e : fed ≡ feedSliceOf linkLimit q (drop i bs)) where
     taken : First q (drop i bs) fed

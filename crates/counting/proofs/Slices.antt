@@ -1,6 +1,6 @@
--- A slice feed leaves the parser that its first bytes leave, fed one by one: as many as it tells, and at least one of a
--- slice that has any.
---   First p bs r   so of what a slice feed gave, r: the number that it tells, and the parser
+-- A slice feed leaves the parser that its first bytes leave, fed one by one: as many as it counts, and at least one
+-- of a slice that has any.
+--   First p bs r   this holds of r, the count and the parser that a slice feed of bs gave
 use mathlib.Core.Path.{_≡_, refl, sym, subst}
 use mathlib.Core.List.{List, [], _∷_}
 use mathlib.Core.Option.{Option, none, some}
@@ -28,11 +28,11 @@ use Rattle.parser.proofs.Demand.{small}
 abbrev until : Parser → List ℕ → Sliced Parser Answer
 until p bs = feedUntil (link linkLimit) decoding (engine linkLimit) p bs
 
--- What is told is taken of bs, and what it leaves is the state.
+-- The count is within bs, and that many bytes of bs leave the state.
 abbrev Taken : Parser → List ℕ → Sliced Parser Answer → Type 0
 Taken p bs s = (s .told ≤ length bs) × (s .state ≡ left p (feeds (take (s .told) bs)))
 
--- By whether the byte b ended a frame, with what the bytes after it do.
+-- The same with a byte b in front, whether or not b ended a frame.
 stop-taken : (o : Option (List ℕ)) (p : Parser) (b : ℕ) (bs : List ℕ) (a : Answer) (s : Sliced Parser Answer)
     → let q = engine linkLimit .feed p b .0 in Taken q bs s
     → let r = stopIf {R = Sliced Parser Answer} o (record { state = q; told = 1; answer = a })

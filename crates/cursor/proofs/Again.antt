@@ -1,11 +1,10 @@
--- A `&κ mut [T]` that is lent again for a lifetime κ′ of a call, and comes back: `Denote/Lend.antt`'s `lends-again` and
--- `comes-back`, of a slice. It says nothing of the crate.
+-- A `&κ mut [T]` lent again for the lifetime κ′ of a call, and given back: `lends-again` and `comes-back` of
+-- `Denote/Lend.antt`, for a slice. Assumes `Given`.
 --   LentAgain     what the holder keeps while the slice is lent again under the name γ₁: the lender's part at κ′, and
 --                 its own borrow at κ, open, with both halves of its ghost variable
 --   lends-again   own (the `&κ mut [T]` at ys) ∗ [κ]_q  ⊢ ⇛ ∃ γ₁. own (the `&κ′ mut [T]` at ys) ∗ LentAgain γ₁
 --   comes-back    given `Room` and that zs is as long as ys:
 --                 [†κ′] ∗ LentAgain γ₁ ∗ finally γ₁ zs  ⊢ ⇛ (own (the `&κ mut [T]` at zs) ∗ [κ]_q)
--- Assumes `Given`.
 use mathlib.Core.Path.{_≡_, sym, ap, subst}
 use Prim.Native.Nat.{ℕ}
 use mathlib.Core.List.{List, [], _∷_}

@@ -1,4 +1,5 @@
--- A command's frame made of its parts: what is put in turn is the frame, and fits where the frame fits.
+-- A command's frame is its parts, joined: in a buffer with room for the frame, all parts are written. `put_value`'s
+-- proof cites this.
 use mathlib.Core.Path.{_≡_, refl, subst, _∙_}
 use mathlib.Core.List.{List}
 use mathlib.Core.Option.{none}
@@ -26,7 +27,7 @@ frame-size w Of.None = refl
 frame-size w (Of.Number v) = refl
 frame-size w (Of.Records a b c) = refl
 
--- The parts are those of the frame.
+-- The parts, joined, are the frame.
 parts-joined : (w : ℕ) (v : Value) → joined (parts (header Command) (tail Command) w v) ≡ frameWith w v
 unfolding framed dataWith
 parts-joined w Of.None = refl
@@ -48,7 +49,7 @@ module _ (w : ℕ) (v : Value) (out : List ℕ) (n : ℕ) (n-is : n ≡ sizeWith
       subst (λ (f : List ℕ). length f ≤ length out → (putAll out 0 bs ≡ written out f) × (endAll out 0 bs ≡ length f))
       (parts-joined w v) (parts-written out bs) (omega (arith, size))
 
-  -- The whole frame is told where its parts were put, and n is the number of bytes that are needed.
+  -- In a buffer with room for the n bytes needed, putting the parts writes the whole frame.
   pub made-whole : (h t : List ℕ) (k : Value) (left : List ℕ) (r : WriteResult) → n ≤ length out → h ≡ header Command
       → t ≡ tail Command → v ≡ k
       → (r ≡ wholeAt (endAll out 0 (parts h t w k)) n) × (left ≡ putAll out 0 (parts h t w k))

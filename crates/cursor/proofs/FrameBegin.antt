@@ -1,10 +1,8 @@
--- A frame writer: a function that makes a cursor over a lent slice in a local, calls methods on it in turn, and answers
--- by its position. Its walk is put together of pieces, each stated once for all of them, whatever their parameters and
--- their calls are. The first:
+-- A frame writer makes a cursor over a lent slice in a local, calls methods on it in turn, and answers by its position.
+-- Its walk has three pieces, each stated once for any parameters and calls: this one, the puts (FramePuts.antt,
+-- FrameCalls.antt) and the end (FrameEnd.antt). Assumes `Given`.
 --     begins   let mut c = Cursor::new(out, needed);
--- From then on the context begins with what is had of the cursor (`Has`): the slice's token, the cursor's cell,
--- and what the cursor owns. The others are in FramePuts.antt.
--- Assumes `Given`.
+-- From then on the context begins with `Has`: the slice's token, the cursor's cell, and what the cursor owns.
 use mathlib.Core.Path.{_≡_, refl}
 use Prim.Native.Nat.{ℕ, _<_, _^_}
 use mathlib.Core.List.{[], _∷_, List}
@@ -50,7 +48,7 @@ use Rattle.cursor.proofs.Cursor.new.Symbol.{name as #new}
 abbrev pub out-ty : Ty
 out-ty = tyStruct sliceName (tcons (tyRef (named 0) mut (tyInt w8)) (tcons (tyInt w64) tnil))
 
--- the cursor c is made over the slice, lent again by the pointer r and the slice s; n is what `new` answers
+-- makes the cursor c over the slice, which is lent again through the pointer r and the slice s; n is `new`'s answer
 abbrev pub begin : ℕ → ℕ → ℕ → ℕ → Body → Body
 begin c n r s rest =
     seq (assign (place r []) (addrOf (place 1 (field 0 ∷ deref (tyInt w8) ∷ []))))
@@ -91,7 +89,7 @@ module _ {M : Type 1} (𝓤 : URA M) (H : Heap 𝓤) (A : Atoms 𝓤) (W : Given
         owned ! usize (Is usize) (uint-makes 𝓤 H A W w64) k _ (refl, fits) $ fjoin ! $ move ! (2 ∷ 0 ∷ []) $ fjoin ! $
         nothing ! $ move ! (2 ∷ 0 ∷ []) $ join ! $ join ! $ nothing ! $ move ! (1 ∷ 0 ∷ []) $ done !
 
-    -- the machine value of a cursor has the struct's MIR type, whose lifetimes a local's erases
+    -- the machine value of a cursor has the struct's MIR type with its lifetimes erased, as in a local
     typed : (h : Cursor) (w : Val) → Is (R κ) h (w ∷ []) → Holds (hasTy (T′.mir erased) w) × WT w
     typed h w is =
         LL.lawful (T.the-type (record { mir = erased; lft = κ })) (T′.the-laws (record { mir = erased; lft = κ }))

@@ -1,11 +1,10 @@
--- The calls of a frame writer in turn (FrameCode.antt), by induction over them: each leaves the cursor moved by the
--- bytes that it puts, and what is had of the parameters as it was.
---   promise, Known         the contract of a method that is called, and that each of them meets its own
---   Cited, known-all       where their routines are the cursor's methods', they do
+-- The calls of a frame writer in turn (FrameCode.antt), by induction: each moves the cursor by the bytes that it puts,
+-- and leaves the parameters as they were. Assumes `Given`.
+--   promise, Known         the contract of a called method; and that each called method meets its contract
+--   Cited, known-all       the called routines are those of the cursor's methods; then they meet their contracts
 --   reached                the cursor left once the parts are put
---   Having                 what is had of the parameters that the calls read
+--   Having                 the context: what the calls need of the parameters
 --   calls-one, calls-all   one call, and all of them
--- Assumes `Given`.
 use mathlib.Core.Path.{_≡_}
 use Prim.Native.Nat.{ℕ, suc, _<_, _^_}
 use mathlib.Core.List.{[], _∷_, List}
@@ -75,7 +74,7 @@ module _ {Ns : List (Param 3)} {M : Type 1} (𝓤 : URA M) (H : Heap 𝓤) where
     Known [] = Unit {2}
     Known (f ∷ fs) = Triple 𝓤 (C (callee f)) (promise A f) × Known fs
 
-  -- where their routines are those of the cursor's methods
+  -- the called routines are those of the cursor's methods
   abbrev pub Cited : Env → List (Call Ns) → Type 0
   Cited ε [] = Unit {0}
   Cited ε (f ∷ fs) = (ε (callee f) ≡ routine f) × Cited ε fs
@@ -163,7 +162,7 @@ module _ (Ns : List (Param 3)) {M : Type 1} (𝓤 : URA M) (H : Heap 𝓤) (A : 
         at-d (f .name) (f .width) (f .bytes) (arg κs e x) (fit x) (f .width′) (f .bytes′) (arg κs e y) (fit y) known
         (λ i j k n. and-then ! (get x _ i j k n) (and-then ! (get y _ i j k n) (no-more !)))
 
-    -- ---- all of them, with a room for each one's reference, before the locals G
+    -- ---- all calls, with room for the reference of each, before the locals G
     pub calls-all : (fs : List (Call Ns)) (h : Cursor) (r : ℕ) (rs : Blocks (refs fs)) (G : List (Ty × ℕ))
         → drop r E ≡ env (refs fs) rs G
         → Known 𝓤 H A C fs → (Γ : List (Item 𝓤)) {rest : Body}

@@ -1,4 +1,4 @@
--- The code of every frame writer, over its numbers and the calls, at least one, that it makes in turn:
+-- The code of every frame writer, for any numbers and any calls (at least one) that it makes in turn. Assumes nothing.
 --     fn(out: &mut [u8], needed: usize, header: &[u8], tail: &[u8], numbers ..) -> WriteResult {
 --         let mut c = Cursor::new(out, needed);
 --         c.put(header); c.u16(2); ..
@@ -12,7 +12,6 @@
 --                      answers, the slice's pointer, the slice, a method's answer, a reference for each call, and the
 --                      position and the bytes needed
 --   E                  where the locals lie
--- Assumes nothing.
 use Prim.Native.Nat.{ℕ, suc, _^_}
 use mathlib.Core.List.{[], _∷_, List, _++_}
 use lib.Dec.{T as Holds, ltb}
@@ -43,7 +42,7 @@ use Rattle.cursor.proofs.Cursor.u16.Met as u16-thm
 use Rattle.cursor.proofs.Cursor.«record».Symbol as record-def
 use Rattle.cursor.proofs.Cursor.«record».Met as record-thm
 
--- ---- the methods; a further one is a further record
+-- ---- the methods; another method is another record
 pub record One : Type 2 where
   pub name : Name
   pub routine : Routine
@@ -136,12 +135,12 @@ module _ {Ns : List (Param 3)} where
   calling c d t [] rest = rest
   calling c d t (f ∷ fs) rest = Calls.calling (callee f) (opds f) c t d (calling c d (suc t) fs rest)
 
--- the number of the local that stands i after the parameters
+-- the number of the local i places after the parameters
 abbrev pub loc : List (Param 3) → ℕ → ℕ
 loc Ns i = suc (suc (suc (past (tys (params Ns)) i)))
 
 module _ (Ns : List (Param 3)) (fs : List (Call Ns)) where
-  -- the number of the local that stands i after the references
+  -- the number of the local i places after the references
   abbrev pub last : ℕ → ℕ
   last i = loc Ns (suc (suc (suc (suc (suc (past (refs fs) i))))))
 

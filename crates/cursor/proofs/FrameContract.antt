@@ -1,11 +1,10 @@
 -- The contract of a frame writer, for any row of parameters and any parts put:
 --     fn(out: &mut [u8], needed: usize, ..) -> WriteResult
--- It leaves the parts put into the slice from its front, and answers by the place after them and the bytes needed.
+-- It puts the parts into the slice from its front, and answers by the place after them and `needed`. Assumes `Given`.
 --   Xs, Parts        the row of the parameters after the first two (Param.antt), and the parts put for them
---   ended, clauses   the contract, as the functions' own have it
---   Begin, End       what it has at its beginning and at its end
+--   ended, clauses   the contract, as each function states it
+--   Begin, End       the context at its beginning and at its end
 --   exits            what it has at its end is what its contract asks
--- Assumes `Given`.
 use mathlib.Core.Path.{_≡_, refl}
 use Prim.Native.Nat.{ℕ}
 use mathlib.Core.List.{[], _∷_, List}
@@ -49,7 +48,7 @@ module _ (Xs : List (Param 3)) (Parts : (κs : Lfts 3) → Args Xs κs → List 
     kept = (yes, (yes, row Xs .kept));
   }
 
-  -- at exit the slice is had; what the other parameters owned went to the cursor's methods for good
+  -- at exit the slice is left; what the other parameters owned went to the cursor's methods
   abbrev pub stayed : Stays (ended .signature .params) (ended .kept)
   stayed = (stay-slice (0 ∷ []) tt (plain (λ _. u8)), (stay-dropped (plain (λ _. usize)) yes, row Xs .drops))
 
@@ -79,7 +78,7 @@ module _ (Xs : List (Param 3)) (Parts : (κs : Lfts 3) → Args Xs κs → List 
     abbrev pub Post : Val → SProp 𝓤
     Post = walkOf 𝓤 H A ended stayed (clauses 𝓤) .post at
 
-    -- what is had at the beginning, and at the end
+    -- the context at the beginning, and at the end
     abbrev pub Begin : List (Item 𝓤)
     Begin =
         ‵ (flft (κs .0) (qs .0))

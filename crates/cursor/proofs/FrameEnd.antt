@@ -1,9 +1,8 @@
--- The end of a frame writer's walk: `whole(c.pos, c.needed)`. The position and the bytes needed are read, `whole` is
--- called with them, its answer is the function's, and the slice is had again.
+-- The end of a frame writer's walk: `whole(c.pos, c.needed)`. The position and the bytes needed are read, and `whole`
+-- is called with them. Its answer is the function's, and the slice comes back. Assumes `Given`.
 --   ending   its code
 --   Whole    the contract of `whole`
 --   ends     the walk
--- Assumes `Given`.
 use mathlib.Core.Path.{_≡_, refl}
 use Prim.Native.Nat.{ℕ}
 use mathlib.Core.List.{[], _∷_, List}
@@ -36,7 +35,7 @@ use Rattle.cursor.proofs.Held.{R, mach, pos-fits, needed-fits, parted, 
 use Rattle.cursor.specs.CommandFrame.{wholeAt}
 use Rattle.cursor.proofs.command_frame.whole.Symbol.{name as #whole}
 
--- the answer by the cursor c, whose position and bytes needed are read into p and n
+-- the answer from the cursor c; its position and bytes needed are read into p and n
 abbrev pub ending : ℕ → ℕ → ℕ → Body
 ending c p n =
     seq (assign (place p []) (rvOpd (copy (place c (field 1 ∷ [])))))

@@ -1,9 +1,8 @@
--- Every frame writer (FrameCode.antt) meets its contract (FrameContract.antt), whatever its numbers and its calls are.
+-- Every frame writer (FrameCode.antt) meets its contract (FrameContract.antt). Assumes nothing.
 --   put-by        the parts that its calls put in turn
---   walk          its code is walked: the locals are made and the arguments stored, the cursor is made, the calls run
+--   walk          the walk of its code: the locals are made and the arguments stored, the cursor is made, the calls run
 --                 (FrameCalls.antt), the answer is made (FrameEnd.antt), and the locals are freed
---   frame-writer  of the functions' routines: it meets its contract, where they are the cursor's methods'
--- Assumes nothing.
+--   frame-writer  its routine meets its contract, if the routines that it calls are the cursor's methods
 use mathlib.Core.Path.{_≡_, refl, _∙_}
 use Prim.Native.Nat.{ℕ, suc, _<_, _^_}
 use mathlib.Core.List.{[], _∷_, List}
@@ -130,7 +129,7 @@ module _ (Ns : List (Param 3)) (fs : List (Call Ns)) where
         keep ! (3 ∷ 2 ∷ 4 ∷ 1 ∷ []) $
         by ! (walk κs qs (a .0) (a .1 .0) (a .1 .1) (are .0 .0 .1) (are .1 .0 .1) (are .1 .1))))
 
-  -- of the functions' routines: ε is its environment, and kf its key
+  -- the same for routines: ε is the writer's environment, kf its key
   pub frame-writer : {M : Type 1} (𝓤 : URA M) (H : Heap 𝓤) (𝓜 : Model 𝓤 H) (𝓖 : GhostRules 𝓤 H) (𝓡 : Running 𝓤 H 𝓜)
       (ε : Env) (kf : Name) → Closed 𝓤 H (tables 𝓤 H 𝓜 𝓡 ε .C) (tables 𝓤 H 𝓜 𝓡 ε .Λ) kf (code Ns fs)
       → ε new.name ≡ new.routine → ε whole.name ≡ whole.routine → Cited 𝓤 H ε fs

@@ -1,9 +1,8 @@
--- The puts of a frame writer's walk (FrameBegin.antt):
+-- The puts of a frame writer's walk (FrameBegin.antt). Assumes `Given`.
 --     puts-number    c.u16(v);
 --     puts-numbers   c.record(k, v);
 --     puts-bytes     c.put(s);
--- A call asks room for the reference that is lent and for the method's answer, and leaves it.
--- Assumes `Given`.
+-- A call needs room for the reference that is lent and for the method's answer, and leaves that room again.
 use mathlib.Core.Path.{_≡_, refl}
 use Prim.Native.Nat.{ℕ, _<_, _^_}
 use mathlib.Core.List.{[], _∷_, List, _++_}
@@ -49,7 +48,7 @@ module _ {M : Type 1} (𝓤 : URA M) (H : Heap 𝓤) (A : Atoms 𝓤) (W : Given
     abbrev OperandsRead : List (Item 𝓤) → List Val → Type 2
     OperandsRead Δ us = (i j k n : Item 𝓤) → Opds (Go {0}) W (i ∷ j ∷ k ∷ n ∷ Δ) E xs us
 
-    -- one whose arguments own nothing but facts
+    -- a call whose arguments own only facts
     pub puts-plain : (X : Extra 0) (e : (ν : ℕ) → Args (X .held) (ν ∷ κ, (κ, tt))) (b : List ℕ)
         → ((ν : ℕ) → X .say (ν ∷ κ, (κ, tt)) (e ν) ≡ b) → (us : List Val)
         → ((ν : ℕ) → flat (rows (X .held) (ν ∷ κ, (κ, tt))) (vals (X .held) (ν ∷ κ, (κ, tt)) (e ν)) ≡ us)
@@ -81,7 +80,7 @@ module _ {M : Type 1} (𝓤 : URA M) (H : Heap 𝓤) (A : Atoms 𝓤) (W : Given
         owned ! (UInt N′) (Is (UInt N′)) (uint-makes 𝓤 H A W N′) v′ _ (refl, fits′) $ fjoin ! $
         owned ! (UInt N) (Is (UInt N)) (uint-makes 𝓤 H A W N) v _ (refl, fits) $ fjoin ! $ done !)
 
-    -- what the bytes own is had twice, and one of the two goes to the method for good
+    -- what the bytes own is copied; one copy goes to the method and does not come back
     module _ (κᵇ : Lft) (qᵇ : Share) (s : RefT (List ℕ)) (i : Item 𝓤) where
       abbrev u : Val
       u = sliceVal (s .ptr) (length (s .now))

@@ -1,13 +1,12 @@
--- A cursor that is held, κ being its slice's lifetime; and one in a local, lent by `&mut` for a call of a method.
---   R, mach          its type, and its machine value; Is-held, that it is one, and so pos-fits, needed-fits and room
---   spelled, parted  in memory it lies at that value; and what it owns is what its fields own
---   Has              what is had of a cursor in a local
+-- A cursor whose slice has the lifetime κ; and one in a local, lent by `&mut` for a call of a method. Assumes `Given`.
+--   R, mach          its type and machine value; Is-held: that value represents it; then pos-fits, needed-fits, room
+--   spelled, parted  in memory it is that value; and it owns what its fields own
+--   Has              the context entries of a cursor in a local
 --   lend   [κ]_q ∗ the local's cell ∗ what the cursor owns
 --          ⊢ ⇛ ∃ ν δ. ([ν ∷ κ]_½ ∗ [κ]_½ ∗ the `&(ν ∷ κ) mut Cursor` under the name δ) ∗ Kept ν δ
 --   back   [ν ∷ κ]_½ ∗ [κ]_½ ∗ Kept ν δ ∗ res δ h′  ⊢ ⇛ ([κ]_q ∗ the local's cell ∗ what the cursor h′ owns)
--- The loan's lifetime is ν ∷ κ, for an atom ν of its own: so it is within κ, the lifetime of the slice, as the method's
--- signature asks (`within`). Each of the two tokens has half of κ's share.
--- Assumes `Given`.
+-- The loan's lifetime is ν ∷ κ, with a new atom ν, so it is within κ, the slice's lifetime, as the method's signature
+-- asks (`within`). Each of the two tokens has half of κ's share.
 use mathlib.Core.Path.{_≡_}
 use Prim.Native.Nat.{ℕ, _<_, _^_}
 use mathlib.Core.List.{[], _∷_, List}
@@ -89,7 +88,7 @@ module _ {M : Type 1} {𝓤 : URA M} {H : Heap 𝓤} {A : Atoms 𝓤} {K : Type 
       learn t (λ _. then))
 
 -- ---- lent
--- the bound that a method's signature has
+-- the bound in a method's signature
 pub within : (ν : ℕ) (κ : Lft) → ν ∷ κ ⊑ κ
 within ν κ = meet-⊑-right (ν ∷ []) κ
 
@@ -97,7 +96,7 @@ within ν κ = meet-⊑-right (ν ∷ []) κ
 abbrev pub ref : ℕ → GName → Cursor → RefT Cursor
 ref l δ h = record { ptr = (l, 0); name = δ; now = h }
 
--- what is had of a cursor c in the local at l: the token of its slice's lifetime, its cell, and what it owns
+-- for a cursor c in the local at l: the token of its slice's lifetime, its cell, and what it owns
 module _ {M : Type 1} (𝓤 : URA M) (κ : Lft) (q : Share) where
   abbrev pub Has : ℕ → Cursor → List (Item 𝓤) → List (Item 𝓤)
   Has l c Γ = ‵ (flft κ q) ∷ ‵ (fat fullShare (T′.mir erased) l 0 (mach c)) ∷ ‵ (R κ .own c (mach c ∷ [])) ∷ Γ

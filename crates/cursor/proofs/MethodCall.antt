@@ -1,12 +1,11 @@
 -- A call of a method on a cursor that lies in a local:
 --     t = &mut c;
 --     d = f(t, ..);
--- `calls-method` walks it, once for every function with these two statements, whatever else its locals are: the cursor
--- is lent to the method for a lifetime of the call and comes back moved (Held.antt). What it asks stands at the head of
--- the context in one order, in which it comes back, so that calls follow each other.
+-- `calls-method` walks it, once for every function with these two statements, whatever its other locals. The cursor is
+-- lent to the method for a lifetime of the call and comes back moved (Held.antt). What a call needs comes first in the
+-- context, and comes back in the same order, so that one call can follow another. Assumes `Given`.
 --   X                  the method's parameters (Param.antt), its contract being `Method X` (MethodContract.antt)
 --   e, b, us, owned    the arguments, the bytes put for them, their machine values, and what they own
--- Assumes `Given`.
 use mathlib.Core.Path.{_≡_, refl, ap, subst, _∙_}
 use Prim.Native.Nat.{ℕ, suc}
 use mathlib.Core.List.{[], _∷_, List}
@@ -122,7 +121,7 @@ module _ {m : ℕ} (X : Extra m) {M : Type 1} (𝓤 : URA M) (H : Heap 𝓤) (A 
       abbrev Rooms : List (Item 𝓤) → List (Item 𝓤)
       Rooms Δ = ‵ (froom lent-ty lₜ 0) ∷ ‵ (froom Y′.mir lₔ 0) ∷ Δ
 
-      -- the operands handed on are read
+      -- the operands passed on are read
       abbrev OperandsRead : Type 2
       OperandsRead = (i j k n : Item 𝓤) → Opds (Go {0}) W (i ∷ j ∷ k ∷ n ∷ Γ) E xs us
 

@@ -1,13 +1,12 @@
--- The code of every method of a cursor, and what is said of it:
+-- The code of every method of a cursor, and the context before and after it. Assumes nothing.
 --     let at = self.pos;
 --     let p = g(&mut *self.out, at, ..);
 --     self.pos = after(at, p);
 --     tell(self.needed, p)
---   thin          its MIR, over g's name and the parameters handed on to g; thin-end, what of it stands after the call
+--   thin          its MIR, for g's name and the parameters passed on to g; thin-end, its part after the call of g
 --   x, h, s       the borrow in the cursor, itself, and its slice's machine value
---   Done          what is had of the cursor, and of the answer, once the bytes are put
---   Self          what is had of self
--- Assumes nothing.
+--   Done          the cursor and the answer, once the bytes are put
+--   Self          self, in its local
 use Prim.Native.Nat.{ℕ, suc}
 use mathlib.Core.List.{[], _∷_, List}
 use lib.ListN.{length}
@@ -51,7 +50,7 @@ thin-end at p n =
     (seq (assign (place n []) (rvOpd (copy (self (field 2 ∷ [])))))
     (seq (call #tell (copy (place n []) ∷ copy (place p []) ∷ []) (place 0 [])) return)))
 
--- the number of the local that stands i after the parameters Xs
+-- the number of the local i places after the parameters Xs
 abbrev pub loc : {n : ℕ} → List (Param n) → ℕ → ℕ
 loc Xs i = suc (suc (past (tys Xs) i))
 

@@ -1,10 +1,9 @@
 -- The contracts of a method of a cursor and of the plain put g that it calls, at any parameters (Param.antt):
 --     fn f(&mut self, ..) -> WriteResult   over   fn g(out: &mut [u8], at: usize, ..) -> Placed
--- Where g places the bytes of its arguments and leaves them put, f answers what the cursor tells of them, and leaves it
--- moved.
---   f-ended, f-clauses, g-ended, g-clauses    as the functions' own have them
---   Method, Callee                            the triples that they make
+-- g puts the bytes of its arguments into the slice. f answers as the cursor does to that put, and leaves it moved.
 -- Assumes nothing.
+--   f-ended, f-clauses, g-ended, g-clauses    the contracts, as each function states them
+--   Method, Callee                            the triples that they make
 use mathlib.Core.Path.{_≡_}
 use Prim.Native.Nat.{ℕ, suc}
 use mathlib.Core.List.{[], _∷_}
@@ -55,7 +54,7 @@ module _ {m : ℕ} (X : Extra m) where
     kept = (yes, (yes, row (X .plainly) .kept));
   }
 
-  -- at exit f has self's borrow; what the arguments owned went to g for good
+  -- at exit f still has self's borrow; what the arguments owned went to g
   abbrev pub stayed : Stays (f-ended .signature .params) (f-ended .kept)
   stayed = (stay-ref (0 ∷ []) tt CursorS, row (X .held) .drops)
 

@@ -1,10 +1,8 @@
--- The end of every method's walk (MethodWalk.antt), from where g has returned: the position that `after` says is
--- stored, the answer is told, the struct is put together again, and the borrow of the cursor is closed at the cursor
--- that is left.
+-- The end of every method's walk (MethodWalk.antt), after g's return. The position from `after` is stored, `tell` gives
+-- the answer, the struct is put together again, and the cursor's borrow is closed at the cursor left. Assumes `Given`.
 --   After, Tell   the contracts of `after` and `tell`
---   Back, Answered  what is had where g has returned, and where the answer is in its place
+--   Back, Answered  the context when g has returned, and when the answer is stored
 --   ended         the walk from the one to the other
--- Assumes `Given`.
 use mathlib.Core.Path.{_≡_, refl, ap}
 use Prim.Native.Nat.{ℕ}
 use mathlib.Core.List.{[], _∷_, List, _++_}
@@ -57,7 +55,7 @@ module _ {M : Type 1} (𝓤 : URA M) (H : Heap 𝓤) (A : Atoms 𝓤) where
 module _ {M : Type 1} (𝓤 : URA M) (H : Heap 𝓤) (A : Atoms 𝓤) (W : Given 𝓤 H A) (κ κ′ : Lft) (q q′ : Share)
     (a : RefT Cursor) (C : Calls 𝓤 H) (Λ : Loops 𝓤 H) (fm : FmC 𝓤 H (W .laws) C)
     (known-after : Triple 𝓤 (C #after) (After 𝓤 H A)) (known-tell : Triple 𝓤 (C #tell) (Tell 𝓤 H A)) (bs : List ℕ)
-    -- the locals: where those lie whose numbers are i₁ to i₃
+    -- the locals: i₁ to i₃ are the numbers of those at l₂ to l₄
     (l₀ l₁ i₁ l₂ i₂ l₃ i₃ l₄ : ℕ) (E₀ : List (Ty × ℕ)) (Γ : List (Item 𝓤)) (post : Post 𝓤 H) where
   abbrev n : ℕ
   n = a .now .pos

@@ -1,9 +1,8 @@
--- Every method of a cursor, at any row of parameters (Param.antt) and any plain put g of them (MethodContract.antt),
--- meets its contract, where g, `after` and `tell` meet theirs. The walk of its body is MethodWalk.antt's; here the
--- locals are allocated, the arguments passed, and the locals freed.
---   code     the method's MIR, over g's name
---   method   of the functions' routines: the method meets its contract
--- Assumes nothing.
+-- Every method of a cursor meets its contract, for any row of parameters (Param.antt) and any plain put g of them
+-- (MethodContract.antt), if g, `after` and `tell` meet theirs. MethodWalk.antt walks the body; here the locals are
+-- allocated, the arguments passed, and the locals freed. Assumes nothing.
+--   code     the method's MIR, for g's name
+--   method   the method's routine meets its contract, if g's routine does
 use mathlib.Core.Path.{_≡_, refl}
 use Prim.Native.Nat.{ℕ, suc}
 use mathlib.Core.List.{[], _∷_}
@@ -111,7 +110,7 @@ module _ {m : ℕ} (X : Extra m) where
         move ! (3 ∷ 1 ∷ []) $ join ! $ keep ! (3 ∷ 2 ∷ 1 ∷ 0 ∷ []) $
         by ! (walk κs qs bounds (a .0) (a .1) (are .1))))
 
-  -- of the functions' routines: ε is f's environment, kf and kg the keys of f and of g, rg the routine of g
+  -- the same for routines: ε is f's environment, kf and kg the keys of f and g, rg the routine of g
   pub method : {M : Type 1} (𝓤 : URA M) (H : Heap 𝓤) (𝓜 : Model 𝓤 H) (𝓖 : GhostRules 𝓤 H) (𝓡 : Running 𝓤 H 𝓜)
       (ε : Env) (kf kg : Name) → Closed 𝓤 H (tables 𝓤 H 𝓜 𝓡 ε .C) (tables 𝓤 H 𝓜 𝓡 ε .Λ) kf (code kg)
       → ε after-def.name ≡ after-def.routine → ε tell-def.name ≡ tell-def.routine → (rg : Routine) → ε kg ≡ rg

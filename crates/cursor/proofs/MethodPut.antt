@@ -1,8 +1,8 @@
--- What a method hands to the plain put g, and has of it (MethodContract.antt), as MethodWalk.antt's walk has it.
+-- What a method passes to the plain put g and gets back (MethodContract.antt), as the walk in MethodWalk.antt needs it.
+-- Assumes `Given`.
 --   Beside            what g takes beside the slice and the position; `Tokens` of it comes back
 --   to-g, asks, gave  g's call, with the slice lent for ν under the name δ: what it asks, and what it gives back
 --   exits             what the method has at its end is what its contract asks
--- Assumes `Given`.
 use mathlib.Core.Path.{_≡_, refl, ap, subst, _∙_}
 use Prim.Native.Nat.{ℕ, suc, _<_, _^_}
 use mathlib.Core.List.{[], _∷_, List, _++_}

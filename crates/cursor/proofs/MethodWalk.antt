@@ -1,8 +1,7 @@
--- The walk of every method's code (MethodCode.antt), once: the borrow of the cursor is opened, the slice is lent to g
--- for a lifetime made for the call and comes back (Again.antt), the position that `after` says is stored, and the
--- borrow is closed at the cursor that is left (MethodEnd.antt). What g asks and gives back is in MethodPut.antt.
---   Before, Answered   what is had at the walk's beginning, and at its end
--- Assumes `Given`.
+-- The walk of every method's code (MethodCode.antt): the cursor's borrow is opened, and the slice is lent to g for a
+-- lifetime of the call and comes back (Again.antt). Then the position is stored and the borrow closed (MethodEnd.antt).
+-- What g asks and gives back is in MethodPut.antt. Assumes `Given`.
+--   Before, Answered   the context at the walk's beginning, and at its end
 use mathlib.Core.Path.{refl}
 use Prim.Native.Nat.{ℕ, suc}
 use mathlib.Core.List.{[], _∷_, List, _++_}
@@ -103,7 +102,7 @@ module _ {m : ℕ} (X : Extra m) {M : Type 1} (𝓤 : URA M) (H : Heap 𝓤) (A 
       ∷ ‵ (fat fullShare Y′.mir l₀ 0 w) ∷ Self 𝓤 a l₁ ∷ Tokens X 𝓤 H A W κs qs a e
       ∷ ‵ (froom (tyRef erased mut (tyInt w8)) l₅ 0) ∷ ‵ (froom bytes-ty l₆ 0) ∷ Cells κs 𝓤 (X .held) bs e ∷ Γ)
 
-  -- the operands handed on are read, with 14 entries in front of their cells
+  -- the operands passed on are read, with 14 entries in front of their cells
   reads : (a b c d e′ f g h i j k l m n : Item 𝓤)
       → Opds (Go {0}) W (a ∷ b ∷ c ∷ d ∷ e′ ∷ f ∷ g ∷ h ∷ i ∷ j ∷ k ∷ l ∷ m ∷ n ∷ Cells κs 𝓤 (X .held) bs e ∷ Γ) E
       (copies 2 (X .held)) (flat (rows (X .held) κs) (vals (X .held) κs e))

@@ -1,14 +1,13 @@
--- The parameters that a put takes beside the slice: a row of numbers of any width and of `&[u8]`.
+-- The parameters that a put takes besides the slice: a row of numbers of any width and of `&[u8]`. Assumes `Given`.
 --   Param n        a parameter of a signature of n lifetimes: its slot, and its machine value
---   row            a row of parameters, none of which is had at exit (`drops`)
+--   row            a row of parameters, none of which is left at exit (`drops`)
 --   Args, vals     the arguments of a row, their machine values, and that each is one of its type (`Fit`)
---   Extra m        the row in a method of a cursor (`held`), whose own two lifetimes come first, and in the plain put
---                  (`plainly`), where the slice's does, with the bytes that are put (`say`, `say′`). Arguments of the
---                  one are handed on as those of the other (`over`), with what they own
+--   Extra m        the row in a method of a cursor (`held`), after the method's own two lifetimes, and in the plain put
+--                  (`plainly`), after the slice's; and the bytes put (`say`, `say′`). The method passes its arguments
+--                  on to the put (`over`), with what they own
 --   number N b     a number of width N, for which the bytes b are put
 --   numbers        two numbers
 --   bytes          a `&[u8]`
--- Assumes `Given`.
 use mathlib.Core.Path.{_≡_, refl}
 use Prim.Native.Nat.{ℕ, suc}
 use mathlib.Core.List.{[], _∷_, List, _++_}
@@ -155,7 +154,7 @@ numbers N b N′ b′ = record {
   says = λ κs ν x. refl;
 }
 
--- ---- bytes, whose lifetime is the third, or the second
+-- ---- bytes: their lifetime is the third in the method, the second in the plain put
 abbrev pub bytes-in : (n j : ℕ) (ok : AllWithin n (j ∷ [])) → Param n
 bytes-in n j ok = record {
   slot = shrSliceOf (j ∷ []) ok (plain (λ _. u8));

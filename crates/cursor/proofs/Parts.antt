@@ -1,4 +1,4 @@
--- Parts put one after the other: a buffer keeps its length, and where there is room for all of them, all are written.
+-- Parts put into a buffer one after another: it keeps its length, and if all parts fit, all are written.
 use mathlib.Core.Path.{_≡_, refl, _∙_}
 use mathlib.Core.Bool.{Bool, true, false, cond}
 use mathlib.Core.List.{List, [], _∷_, _++_, append-nil, append-assoc}
@@ -38,7 +38,7 @@ pub parts-length : (out : List ℕ) (at : ℕ) (bs : List (List ℕ)) → length
 parts-length out at [] = refl
 parts-length out at (b ∷ bs) = parts-length (putIn out at b) (nextAt at (placed out at b)) bs ∙ put-length out at b
 
--- The parts bs after what is written.
+-- The parts bs, put after bytes p that are already written.
 module _ (out : List ℕ) where
   parts-after : (p : List ℕ) (bs : List (List ℕ)) → length p + length (joined bs) ≤ length out
       → (putAll (written out p) (length p) bs ≡ written out (p ++ joined bs))

@@ -1,16 +1,15 @@
--- Locals in a row, as many as there are: what is had of them is one entry of the context. And the row of a function's
--- parameters (Param.antt), in such locals.
+-- A row of any number of locals, as one entry of the context; and the row of a function's parameters (Param.antt) in
+-- such locals. Assumes `Given`.
 --   Blocks, locals, env    a block for each type; the locals of these types; and where they lie, before other locals
---   Rooms                  what is had of them when they are made, and when they are freed
+--   Rooms                  their entry of the context when they are made, and when they are freed
 --   allocs-row, frees-row  they are made, and freed
---   past                   the number of the local that stands i after them, counted from the first of them
+--   past                   the number of the local i places after them, counted from the first of them
 --   past-spot, past-row    where it lies, and the locals from it on
 --   spot-at, next-at       where the first of the locals from a number on lies, and those after it
---   Cells                  what is had of the parameters once they are stored
+--   Cells                  the entry of the parameters once they are stored
 --   pass-row, forgets-row  they are stored, and are room again
 --   In, value, fits        one of them, and its value, which is of its type; spot-in, where it lies
 --   reads, reads-all       one can be read, and all in their order
--- Assumes `Given`.
 use mathlib.Core.Path.{_≡_, refl, ap}
 use Prim.Native.Nat.{ℕ, zero, suc}
 use mathlib.Core.List.{[], _∷_, List}

@@ -1,10 +1,9 @@
--- Steps of a walk; they say nothing of the crate.
---   at-local    a place of a local of which it is known where it lies: what a lemma about a piece of code needs that
---               holds of every function with that piece, whatever its other locals are
+-- Steps of a walk that do not mention the crate. Assumes `Given`.
+--   at-local    a place in a local, from a proof of where the local lies: so a lemma about a piece of code holds for
+--               every function with that piece, whatever its other locals
 --   says-both   the two facts that a contract with two `ensures` states
 --   Told        the contract of a covered `fn f(n: usize, p: R) -> R′` that answers g n p
---   calls-told  a call of one: what n owns is a fact, what p owns goes to f, and what the answer owns is had
--- Assumes `Given`.
+--   calls-told  a call of such an f: what n owns is a fact, what p owns goes to f, what the answer owns comes back
 use mathlib.Core.Path.{_≡_, sym, subst, refl}
 use Prim.Native.Nat.{ℕ, _<_, _^_}
 use mathlib.Core.List.{List, [], _∷_}

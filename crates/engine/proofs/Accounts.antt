@@ -1,4 +1,5 @@
--- From the claim alone: without a reset, and where its counter is not full, every byte taken is accounted for.
+-- From the claim alone: without a reset, every byte taken is accounted for, if the counter of lost bytes began at 0 and
+-- is not full; and the counter of frames counts the deliveries.
 use mathlib.Core.Path.{_≡_, refl, sym, _∙_, ap}
 use mathlib.Core.List.{List, [], _∷_, _++_, append-assoc, append-nil}
 use mathlib.Core.Bool.{Bool, true, false, cond}
@@ -26,7 +27,7 @@ cut-waits (whole s ∷ ps) = omega (arith, cut-waits ps)
 cut-waits (unfinished s ∷ ps) = omega (arith, cut-waits ps, length-append s (cut ps))
 
 module _ {S A K : Type 0} (E : Engine S A K) where
-  -- Calls without a reset are one stretch, of all that they took.
+  -- Calls without a reset make one stretch: what was pending, then all that they took.
   pub one-stretch : (calls : List Call) (p : List ℕ) (s : S) → Every Goes calls
       → stretches p (history E s calls) ≡ soFar p (history E s calls) ∷ []
   one-stretch [] p s g = refl
@@ -46,8 +47,8 @@ module _ {S A K : Type 0} (E : Engine S A K) where
       all-taken cs (p ++ t) s₁ (g .1) ∙ append-assoc p t (takenBy (history E s₁ cs))
   all-taken (reset ∷ cs) p s g = absurd (g .0)
 
-  -- The counter k counts the bytes that are in no frame. What was pending and taken is what it counted, and what is
-  -- unfinished, and the whole frames.
+  -- The counter k counts stray bytes and bytes of broken starts. These, the unfinished bytes and those of whole frames
+  -- add up to the bytes pending and taken.
   pub accounts : (P : Protocol A K) (k : K) → ((q : Piece) → P .adds k q ≡ lost q)
       → (p : List ℕ) (s : S) (calls : List Call) (x : Fulfilled P E p s calls) → Every Goes calls
       → E .counter k s ≡ 0 → E .counter k (final E s calls) < E .max
@@ -65,7 +66,7 @@ module _ {S A K : Type 0} (E : Engine S A K) where
         cut-waits ps,
       ))
 
--- From the claim alone: a counter of the whole frames that decode counts what is delivered.
+-- A counter of the whole frames that decode counts the deliveries.
 module _ {A : Type 0} (decodes : List ℕ → Bool) (answerOf : List ℕ → A) where
   one-answer : (b : Bool) (a : A) → length (cond b (a ∷ []) []) ≡ cond b 1 0
   one-answer true a = refl

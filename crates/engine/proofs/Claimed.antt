@@ -1,7 +1,7 @@
--- What a lawful engine's claims are made of, from a valid state: each is a law of this crate.
---   Demand p s     every list of calls that pass bytes fulfils the demand, from the state s, in which p is pending
---   Claimed s      the demand from s, with what s stands for pending, and what follows from it
---   FromNothing s  the same where nothing is pending in s
+-- The claims about a lawful engine from a valid state, each by a law of this crate. Both parsers cite them.
+--   Demand p s     demand 3: every list of calls that pass bytes fulfils it, from the state s, with p pending
+--   Claimed s      the demand from s, with the string that s holds pending, and four consequences
+--   FromNothing s  with nothing pending: the demand, what it determines, and that every byte is accounted for
 use mathlib.Core.Path.{_≡_, refl, sym, ap, subst, _∙_}
 use mathlib.Core.List.{List, [], _∷_, _++_}
 use Prim.Native.Nat.{ℕ, _+_, _<_, min}
@@ -25,7 +25,7 @@ module _ (F : Framing) {S A K : Type 0} (D : Decoding A) (C : Counting K) (E : E
   abbrev pub Demand : List ℕ → S → Type 0
   Demand p s = (calls : List Call) → Every ByteCall calls → Fulfilled (protocolOf F D C) E p s calls
 
-  -- Whatever fulfils the demand does as s does.
+  -- An engine that fulfils the demand, with equal max and first counters, does what E does from s.
   abbrev pub Determines : List ℕ → S → Type 0
   Determines p s = (E′ : Engine S A K) (s′ : S) (calls : List Call) → Every ByteCall calls
       → Fulfilled (protocolOf F D C) E′ p s′ calls → E′ .max ≡ E .max → ((k : K) → E′ .counter k s′ ≡ E .counter k s)

@@ -1,5 +1,5 @@
--- From the claim alone: without a reset, the call that took the last byte of a whole frame delivered it, if it decodes;
--- the calls before it delivered what the pieces before the frame do, and those after it what those after it do.
+-- From the claim alone, without a reset: the call that took the last byte of a whole frame delivered it, if it decodes.
+-- The calls before it delivered the frames before, the calls after it the frames after. The crate `stream` cites this.
 use mathlib.Core.Path.{_≡_, refl, sym, _∙_, ap}
 use mathlib.Core.List.{List, [], _∷_, _++_, append-nil, append-cancel-left, append-cancel-right}
 use Prim.Native.Nat.{ℕ, _+_, _-_, _≤_, _<_}
@@ -54,7 +54,7 @@ module _ (F : Framing) {S A K : Type 0} (D : Decoding A) (C : Counting K) (E : E
         abbrev m : ℕ
         m = length t - length (takenBy earlier)
 
-        -- What was taken before the call, and a part of what it took.
+        -- The bytes t are those taken before the call, and a first part of those that it took.
         in-part : t ≡ takenBy earlier ++ take m (taken one)
         in-part =
             let q = takenBy earlier in
@@ -65,7 +65,7 @@ module _ (F : Framing) {S A K : Type 0} (D : Decoding A) (C : Counting K) (E : E
             ∙ take-append-add q (taken one ++ takenBy later) m
             ∙ ap (λ (l : List ℕ). q ++ l) (take-append-le m (taken one) (takenBy later) (omega arith))
 
-        -- The part is all of it.
+        -- That part is all that the call took.
         last : t ≡ takenBy earlier ++ taken one
         last =
             let z = exactly F D C end (fulfils calls bytes .divide) (takenBy earlier) (takenBy later) one right short
@@ -75,7 +75,7 @@ module _ (F : Framing) {S A K : Type 0} (D : Decoding A) (C : Counting K) (E : E
         its : delivery (D .delivers) one ≡ answer (D .decodes) (D .answerOf) (whole f)
         its = delivers F D C end (fulfils calls bytes .divide) (takenBy earlier) (takenBy later) one right last short
 
-        -- The calls up to this one are calls as well, and took the bytes t.
+        -- The claim also holds of the calls up to this one, which took the bytes t.
         up-to : deliveries (D .delivers) earlier ++ (delivery (D .delivers) one ++ [])
             ≡ answersOf D before ++ (answer (D .decodes) (D .answerOf) (whole f) ++ [])
         up-to =
@@ -123,7 +123,7 @@ module _ (F : Framing) {S A K : Type 0} (D : Decoding A) (C : Counting K) (E : E
         let r = reach E calls s (length t) some (omega (arith, ap length taken-is, length-append t v)) in
         by-call (r .earlier) (r .at) (r .later) (r .split) (r .short) (r .long)
 
--- So from the frame on the calls delivered what it and the pieces after it do.
+-- So from that call on, the calls delivered the frame and those after it, as far as they decode.
 pub delivered-on : {A K : Type 0} (P : Protocol A K) {ds : List (Did A)} {t f : List ℕ} {before after : List Piece}
     → (x : DeliveredBy P ds t before f after)
     → deliveries (P .delivers) ds

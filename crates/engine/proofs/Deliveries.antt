@@ -46,7 +46,7 @@ module _ {A : Type 0} (D : Decoding A) where
     does-deliver (does-stray w) = none-delivered
     does-deliver (does-break w d) = does-deliver d
 
-    -- A byte that ends no frame adds nothing to deliver, and one that does all that it closed.
+    -- The pieces that a byte closes without ending a frame deliver nothing.
     quiet : (p : List ℕ) (c : ℕ) → step F p c .ended ≡ none → answersOf (step F p c .closed) ≡ []
     quiet p c q = sym (does-deliver (does F p c)) ∙ ap (λ o. ifDelivered (answerAt D o)) q ∙ none-delivered
 

@@ -1,4 +1,4 @@
--- Bytes fed one by one are one stretch, after what was pending.
+-- Bytes fed one by one extend one stretch. The crate `counting` cites this.
 use mathlib.Core.Path.{_≡_, sym, _∙_, ap}
 use mathlib.Core.List.{List, [], _∷_, _++_, append-nil}
 use Prim.Native.Nat.{ℕ}

@@ -22,7 +22,7 @@ use Rattle.engine.proofs.Moves.{DidRight, Moves, moves-byte, slice-move
 use Rattle.engine.proofs.Rights.{Rights, rights-none, rights-more, pieces, call-right}
 
 module _ (F : Framing) {A K : Type 0} (D : Decoding A) (C : Counting K) where
-  -- What is answered, and what is added, up to the unfinished end.
+  -- The unfinished end adds no answer, and nothing to a counter.
   closed-answers : (u : List ℕ) → answersOf D (from F [] u) ≡ answersOf D (closed F [] u)
   closed-answers u = rw (from-is F [] u, answers-append D, leftover-answers D (rest F [] u), append-nil)
 
@@ -31,7 +31,7 @@ module _ (F : Framing) {A K : Type 0} (D : Decoding A) (C : Counting K) where
 
 module _ (F : Framing) {S A K : Type 0} (D : Decoding A) (C : Counting K) (E : Engine S A K)
     {Valid : S → Type 0} (L : Lawful F D C E Valid) where
-  -- The calls that did ds lead from s to s′; s stands after the bytes u of a stretch.
+  -- The calls that did ds lead from s to s′; before them their stretch has the bytes u.
   record Run (u : List ℕ) (s : S) (ds : List (Did A)) (s′ : S) : Type 0 where
     valid : Valid s′
     stands : E .pending s′ ≡ rest F [] (soFar u ds)
@@ -50,7 +50,7 @@ module _ (F : Framing) {S A K : Type 0} (D : Decoding A) (C : Counting K) (E : E
     count = λ k. (0, omega (arith, L .capped s ok k), omega (arith, closed-adds F D C k u));
   }
 
-  -- A call that took bytes, before others.
+  -- A feed or a slice, then the calls after it.
   run-took : (u : List ℕ) (s : S) (d : Did A) (s₁ : S) (ds : List (Did A)) (s′ : S)
       → E .pending s ≡ rest F [] u → Moves F D C E L s (taken d) s₁ → DidRight F D (E .pending s) d
       → ((es : List (Did A)) → soFar u (d ∷ es) ≡ soFar (u ++ taken d) es)
@@ -113,7 +113,7 @@ module _ (F : Framing) {S A K : Type 0} (D : Decoding A) (C : Counting K) (E : E
       run-took u s d s₁ (history E s₁ cs) (final E s₁ cs) e (slice-moves F D C E L s bs ok (h .0))
       (slice-right F D C E L s bs ok (h .0)) (λ es. refl) refl (λ ok₁ e₁. runs cs (u ++ taken d) s₁ ok₁ e₁ (h .1))
 
-  -- The theorem.
+  -- Demand 3.
   pub fulfilled : (s : S) → Valid s → (calls : List Call) → Every ByteCall calls
       → Fulfilled (protocolOf F D C) E (E .pending s) s calls
   unfolding divided
@@ -132,7 +132,7 @@ module _ (F : Framing) {S A K : Type 0} (D : Decoding A) (C : Counting K) (E : E
         unfinished = L .pending-length (final E s calls) (x .valid) ∙ ap length left;
       }
 
-  -- And the state stays valid.
+  -- The state stays valid.
   pub final-valid : (s : S) (calls : List Call) → Valid s → Every ByteCall calls → Valid (final E s calls)
   final-valid s calls ok h =
       runs calls (E .pending s) s ok (sym (waits-rest F (E .pending s) (L .pending-waits s ok))) h .valid

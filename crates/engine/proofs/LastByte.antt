@@ -1,4 +1,4 @@
--- A call that took the last byte of a whole frame took none after it, and delivered the frame, if that decodes.
+-- A call that took the last byte of a whole frame took no byte after it, and delivered the frame, if it decodes.
 use mathlib.Core.Path.{_≡_, refl, ap}
 use mathlib.Core.List.{List, [], _∷_, _++_, append-assoc}
 use mathlib.Core.Bool.{Bool, true, false, cond}
@@ -35,14 +35,14 @@ module _ (F : Framing) {A K : Type 0} (D : Decoding A) (C : Counting K) where
           absurd (clash (D .decodes f) (rw (frame-unique F d (l .1) (y .1 .1)) (y .2)) q)
       go false q false r = refl
 
--- No frame ends before the last byte that a slice feed took.
+-- No frame ends at a byte that a slice call took, except perhaps the last.
 not-within : {ps : List Piece} {n m k : ℕ} → Told ps n m k → (j : ℕ) → 0 < j → j < k → (f : List ℕ)
     → ¬ EndsAt ps (n + j) f
 not-within (to-frame g h l x none-before) j h′ l′ f = none-before j f h′ l′
 not-within (to-end e none-there) j h′ l′ f = none-there j f h′ (omega arith)
 
--- The frame f ends with the last of the bytes t, which come after p; `before` and f are the pieces up to there, and
--- `after` those of what comes after it, v.
+-- The frame f ends with the last of the bytes t, which come after p. The pieces up to there are `before` and f; those
+-- of the bytes v after it are `after`.
 pub record Ending (F : Framing) (p t v : List ℕ) (before : List Piece) (f : List ℕ) (after : List Piece) : Type 0 where
   pub front : Divides F (p ++ t) (before ++ (whole f ∷ []))
   pub all : Divides F (p ++ (t ++ v)) (before ++ (whole f ∷ after))
@@ -57,7 +57,7 @@ module _ (F : Framing) {A K : Type 0} (D : Decoding A) (C : Counting K) {p t v :
     abbrev pieces : List ℕ → List Piece
     pieces l = divide l .pieces
 
-    -- Where the bytes t are q and r, whatever comes after them, f ends with the last of r.
+    -- If t is q and r, then f ends with the last byte of r, whatever follows.
     ends-with : (r x : List ℕ) → t ≡ q ++ r → 0 < length r → LastEnds (pieces ((p ++ q) ++ (r ++ x))) (p ++ q) r f
     ends-with r x e h =
         let whole-string : p ++ (t ++ v) ≡ (p ++ q) ++ (r ++ v) = rw e (simp append-assoc) in
@@ -69,7 +69,7 @@ module _ (F : Framing) {A K : Type 0} (D : Decoding A) (C : Counting K) {p t v :
     abbrev n : ℕ
     n = length t - length q
 
-    -- The call took no byte after the frame's last: a slice feed stops there.
+    -- The call took no byte after the frame's last: a slice call stops there.
     pub exactly : (d : Did A) → CallRight (protocolOf F D C) pieces (p ++ q) w d → length q < length t
         → n ≤ length (taken d) → t ≡ q ++ take n (taken d) → n ≡ length (taken d)
     exactly (fed b a) r h l e = omega arith

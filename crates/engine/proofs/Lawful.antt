@@ -1,8 +1,8 @@
--- What one call of an engine has to do, so that every list of calls is right: it does what the scanner does.
---   Decoding A        what a whole frame is answered with, and whether that delivers it, with three laws
+-- What each single call on an engine must do so that every list of calls is right: what the scanner does.
+--   Decoding A        the answer to a whole frame, and whether it delivers the frame, with three laws
 --   protocolOf F D C  the protocol that a framing, a decoding and a counting make
---   answerAt D o      the answer at a byte that ended the frame o, or at one that ended none
---   feedUntil         bytes fed one by one, up to and with the first that ends a whole frame
+--   answerAt D o      the answer at a byte; o is the frame that it ended, if any
+--   feedUntil         bytes fed one by one, up to and including the first that ends a whole frame
 --   Lawful F D C E V  from every state with the property V, each call does what the scanner does, and keeps V
 use mathlib.Core.Path.{_≡_}
 use mathlib.Core.List.{List, [], _∷_}
@@ -17,8 +17,7 @@ use Rattle.framing.proofs.Scanner.{step}
 use Rattle.engine.specs.Engine.{Sliced, Engine}
 use Rattle.engine.specs.Fulfilled.{Protocol}
 
--- `none` is the answer "no frame". A frame that decodes is never answered so, and one that does not always is.
--- Where decoding is a proposition, `decodes` is what its decision says.
+-- `none` is the answer "no frame". A frame that does not decode always gets it, and one that decodes never does.
 pub record Decoding (A : Type 0) : Type 0 where
   pub none : A
   pub delivers : A → Bool
@@ -43,7 +42,7 @@ abbrev pub answerAt : {A : Type 0} → Decoding A → Option (List ℕ) → A
 answerAt D none = D .none
 answerAt D (some f) = D .answerOf f
 
--- The first outcome where a frame ended, else the second.
+-- The first outcome if a frame ended, else the second.
 abbrev pub stopIf : {R : Type 0} → Option (List ℕ) → R → R → R
 stopIf (some f) stop on = stop
 stopIf none stop on = on
@@ -57,8 +56,8 @@ module _ (F : Framing) {S A K : Type 0} (D : Decoding A) (E : Engine S A K) wher
       (record { state = E .feed s b .0; told = 1; answer = E .feed s b .1 })
       (record { state = more .state; told = suc (more .told); answer = more .answer })
 
--- An engine may be lawful of several framings, from different states: `Valid` says from which. It holds of every state
--- that the types allow, unless a state holds a setting of its framing, as its largest length.
+-- An engine may be lawful for several framings, for each from other states: `Valid` says from which. For both parsers
+-- it holds of every state that the types allow.
 pub record Lawful (F : Framing) {S A K : Type 0} (D : Decoding A) (C : Counting K) (E : Engine S A K)
     (Valid : S → Type 0) : Type 0 where
   -- a byte fed: the pending string, the answer and the counters
@@ -82,8 +81,8 @@ pub record Lawful (F : Framing) {S A K : Type 0} (D : Decoding A) (C : Counting 
   pub reset-valid : (s : S) → Valid s → Valid (E .reset s)
   pub reset-pending : (s : S) → Valid s → E .pending (E .reset s) ≡ []
   pub reset-counter : (s : S) → Valid s → (k : K) → E .counter k (E .reset s) ≡ E .counter k s
-  -- what is pending is open and not whole, and is as long as the engine says
+  -- the pending string is open and not whole, and `unfinished` is its length
   pub pending-waits : (s : S) → Valid s → Waits F (E .pending s)
   pub pending-length : (s : S) → Valid s → E .unfinished s ≡ length (E .pending s)
-  -- no counter is past its max
+  -- no counter exceeds max
   pub capped : (s : S) → Valid s → (k : K) → E .counter k s ≤ E .max

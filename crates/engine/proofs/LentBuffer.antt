@@ -1,10 +1,9 @@
--- The buffer of a parser in memory is lent as a `&mut [u8; N]` for the lifetime ν of a call, and comes back: nothing
--- of it is copied.
+-- The buffer of a parser in memory, lent as a `&mut [u8; N]` for the lifetime ν of a call and given back. Nothing of it
+-- is copied. Assumes `Given`.
 --   lend   the parts v in memory  ⊢ ⇛ ∃ δ. (the `&ν mut [u8; N]` under the name δ, at v's buffer) ∗ Kept δ
 --   back   [†ν] ∗ Kept δ ∗ (its last list is ys)  ⊢ ⇛ the parts v in memory, with the buffer ys
--- `Kept` is the lender's part, and the way from the field back to the struct with what the other fields own: meanwhile
--- nothing of the parser can be read or written. The pointer is spelled `o + 0`, as the step to a field computes it.
--- Assumes `Given`.
+-- `Kept` is the lender's part, and the way from the field back to the struct with what the other fields own. Until then
+-- nothing of the parser can be read or written. The pointer is written `o + 0`, as the step to a field computes it.
 use mathlib.Core.Path.{refl}
 use Prim.Native.Nat.{ℕ, _+_}
 use mathlib.Core.List.{[], _∷_, List, map, map-id}

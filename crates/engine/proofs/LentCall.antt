@@ -1,13 +1,12 @@
--- A feed f of a parser that is lent: its code, the call that it makes of its step g, and its exit, for LentWalk.antt's
--- walk.
+-- A feed f of a lent parser: its code, its call of the step g, and its exit, for the walk in LentWalk.antt. Assumes
+-- `Given`.
 --   code k     f's MIR, k being g's key
 --   Callee     g's contract
 --   goes-g     the buffer lent, the place, the counters and e are what g asks for
 --   got-g      what g says of its result, and of the list that it left in the buffer
 --   Entry      what f has as it begins
 --   Post       what f owes of the value that it returns
---   exits      f owes no more, where self's borrow is closed at the new parser
--- Assumes nothing.
+--   exits      once self's borrow is closed at the new parser, f has all that it owes
 use mathlib.Core.Path.{refl, ap}
 use Prim.Native.Nat.{ℕ, suc, _+_}
 use mathlib.Core.List.{[], _∷_, List}
@@ -68,7 +67,7 @@ module _ {K : ParserType} {m : ℕ} (F : Feed K m) where
         (seq (assign (place 0 []) (rvOpd (copy (place 5 (field 2 ∷ []))))) return))))));
   }
 
-  -- at exit f has self's borrow; what e owned went to g for good
+  -- at exit f still has self's borrow; what e owned went to g
   abbrev pub stayed : Stays (ended F .signature .params) (ended F .kept)
   stayed = (stay-ref (0 ∷ []) tt (plain (λ _. P K)), (stay-dropped (slot F) yes, tt))
 

@@ -1,10 +1,10 @@
--- A feed of a parser that is lent, `fn(&mut self, e: E) -> A`, over a covered step
+-- A feed of a lent parser, `fn(&mut self, e: E) -> A`, which calls a covered step
 -- `fn(buf: &mut [u8; N], place: C, stats: S, e: E) -> struct { place: C, stats: S, answer: A }`.
 --   Extra m        the parameter e, which has m lifetimes; byte-extra, slice-extra: a `u8` and a `&[u8]`
---   Feed K m       what a feed of a parser of the type K is made of: e, the type A, the struct, what the step does, and
---                  what is claimed of any parser
+--   Feed K m       the parts of a feed of a parser of the type K: e, the type A, the struct, what the step does, and
+--                  the claim about any parser
 --   moved          the struct's type; moved-laws, its laws; moved-mir, its MIR type
---   final          the parser that is left; Does: what the step does, of a parser's parts and e
+--   final          the parser left; Does: what the step does with a parser's parts and e
 --   ended          the feed's signature; clauses: the answer and the parser left are the step's, and the claim holds
 --   step-ended     the step's signature; step-clauses: its result, and what it leaves in the buffer
 -- Assumes nothing.
@@ -37,7 +37,7 @@ use denote.Exit.{yes, Last, left}
 use Rattle.engine.proofs.PlainField.{PlainField, Fixed, as-field, Value, val, type}
 use Rattle.engine.proofs.LentType.{ParserType, Parts, P, vals}
 
--- nothing is said of e at exit
+-- a contract says nothing of e at exit
 pub record Extra (m : ℕ) : Type 2 where
   pub at : Lfts m → RattleType
   pub ty : Ty
@@ -85,7 +85,7 @@ pub record Feed (K : ParserType) (m : ℕ) : Type 2 where
   -- the step's result, and what it leaves in the buffer
   pub gives : (κs : Lfts m) → Parts K → extra .at κs .Denot → Moved
   pub leaves : (κs : Lfts m) → Parts K → extra .at κs .Denot → List ℕ
-  -- what is claimed of any parser
+  -- the claim about any parser
   pub Claim : K .D → Type 0
   pub claimed : (h : K .D) → Is (P K) h (vals K h) → Claim h
 
@@ -113,14 +113,14 @@ module _ {K : ParserType} {m : ℕ} (F : Feed K m) where
   abbrev pub answer-val : F .Moved → Val
   answer-val r = val (F .answer) (answer-in r)
 
-  -- the parser that is left, where the step returned r and left ys
+  -- the parser left, if the step returned r and left ys in the buffer
   abbrev pub final-parts : F .Moved → List ℕ → Parts K
   final-parts r ys = (ys, (F .fields r .0, (F .fields r .1 .0, tt)))
 
   abbrev pub final : F .Moved → List ℕ → K .D
   final r ys = K .put (final-parts r ys)
 
-  -- that the step returns r and leaves ys, of a parser's parts and e
+  -- given a parser's parts and e, the step returns r and leaves ys
   abbrev pub Does : (κs : Lfts m) → Parts K → F .extra .at κs .Denot → F .Moved → List ℕ → Type 0
   Does κs v e r ys = (r ≡ F .gives κs v e) × (ys ≡ F .leaves κs v e)
 

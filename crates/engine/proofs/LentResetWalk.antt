@@ -1,10 +1,10 @@
--- A reset f of a parser that is lent by `&mut`. Its walk, once, for any kind of parser and any covered g:
+-- The walk of a reset f of a parser lent by `&mut`, once for every type of parser and every covered g:
 --     fn f(&mut self) {
 --         self.place = g();
 --     }
--- The place that g makes is stored in the parser after the borrow, which is opened for it and closed at what is left.
--- LentReset.antt has the contracts, f's code and the call.
---   lent-reset    f meets its contract, where g meets its own
+-- The borrow is opened, the place that g makes is stored, and the borrow is closed at the parser left. LentReset.antt
+-- has the contracts, f's code and the call.
+--   lent-reset    f meets its contract, if g meets its own
 -- Assumes nothing.
 use mathlib.Core.Path.{_≡_, refl, sym}
 use Prim.Native.Nat.{ℕ}
@@ -48,7 +48,7 @@ use Rattle.engine.proofs.LentReset as Call
 module _ {K : ParserType} (R : Reset K) where
   module _ {M : Type 1} (𝓤 : URA M) (H : Heap 𝓤) (A : Atoms 𝓤) (W : Given 𝓤 H A) (κ : Lft) (q : Share) (b o : ℕ)
       (γ : GName) (h : K .D) where
-    -- the place that g makes, and the parser that is left
+    -- the place that g makes, and the parser left
     abbrev C : Value (K .place)
     C = R .start
 
@@ -64,7 +64,7 @@ module _ {K : ParserType} (R : Reset K) where
     abbrev Post : Val → SProp 𝓤
     Post = walkOf 𝓤 H A (ended R) (Call.stayed R) (clauses R 𝓤) .post (((κ, tt), (q, tt), tt, given, at), tt)
 
-    -- the borrow, closed at what is left
+    -- the borrow, closed at the parser left
     abbrev Closing : List (Item 𝓤)
     Closing = ‵ (fobs γ (P K .coded .code p)) ∷ ‵ (fbor κ (Body (mem (P K)) b o γ)) ∷ ‵ (flft κ q) ∷ []
 
@@ -112,7 +112,7 @@ module _ {K : ParserType} (R : Reset K) where
           (from ! (hop ! (look ! 7 refl) (fld ! refl (stop !))))
           (store-in ! 0 (sub ! 1 refl (whole !)) (fits (K .place) 𝓤 H A W C _ is-c)) $
           assigns ! (of-opd ! (unit-lit !)) (from ! (stop !)) (init ! 9 refl (tt, tt)) $
-          -- the borrow is closed at what is left
+          -- the borrow is closed at the parser left
           rewrite ! 0 (λ (v : Parts K). Cell K b o v) (sym (K .put-parts (reset-parts K C h))) refl $
           use1 W (‵ (cellAt fullShare (P K .mir) (vals K p) b o))
           (W .laws .at-raw fullShare (mir-type K) b o (val K p)) $

@@ -1,18 +1,17 @@
--- The type of a parser that is lent: a struct of a buffer of bytes, a place in a frame and counters. The parser in
--- memory, its machine value, and what whoever holds it knows.
+-- The type of a lent parser: a struct of a buffer of bytes, a place in a frame and counters. The parser in memory, its
+-- machine value, and what its holder knows. Assumes `Given`.
 --   ParserType          the struct: its name, the buffer's length, the two plain fields, and how a parser is put
---                       together of its parts
+--                       together from its parts
 --   Parts               what its fields hold: the buffer, the place, the counters
 --   P, Apart, mir-type  its type, the type of the same struct as its parts, and the MIR type of both
 --   parts-val, val      the machine value of parts, and of a parser; parts-vals, vals, the list of that one value
---   fits                a machine value that stands for a parser has its MIR type
+--   fits                the machine value of a parser has its MIR type
 --   Known               what is known of parts in memory; is-buf, is-place, is-stats, is-parts: it is known of each
---   known-put           what is known of parts is known of the parser put together of them
---   makes               what a parser owns is had for nothing
+--   known-put           what is known of parts is known of the parser put together from them
+--   makes               what a parser owns needs no resource
 --   Cell                its cell, for the steps that read and write its fields
 --   self                a place in it, after `&mut self`
 --   opened              the borrow of a `&mut` is opened, and what it holds is written out as a Cell
--- Assumes nothing.
 use mathlib.Core.Path.{_≡_, sym, subst}
 use Prim.Native.Nat.{ℕ}
 use mathlib.Core.List.{[], _∷_, List, map}
@@ -49,7 +48,7 @@ pub record ParserType : Type 2 where
   pub room : ℕ
   pub place : PlainField
   pub stats : PlainField
-  -- the record, its parts, and the record put together of parts, which has those
+  -- the record, its parts, and the record put together from parts, whose parts they are
   pub D : Type 0
   pub parts : D → Values (fieldsOf room place stats)
   pub put : Values (fieldsOf room place stats) → D
@@ -112,7 +111,7 @@ module _ (K : ParserType) where
     makes = LL.makes the-type the-plain 𝓤 H A
 
   module _ (v : Parts) where
-    -- the buffer's machine value, which the array's row spells with a map
+    -- the buffer's machine value, which the array's row writes with a map
     abbrev IsBuf : Type 0
     IsBuf = Is Buf (map (λ x. x) (v .0)) (the-laws .0 .val (map (λ x. x) (v .0)) ∷ [])
 

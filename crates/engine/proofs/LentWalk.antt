@@ -1,4 +1,4 @@
--- A feed f of a parser that is lent by `&mut`. Its walk, once, for any kind of parser and any covered step g:
+-- The walk of a feed f of a parser lent by `&mut`, once for every type of parser and every covered step g:
 --     fn f(&mut self, e: E) -> A {
 --         let place = self.place;
 --         let stats = self.stats;
@@ -7,11 +7,11 @@
 --         self.stats = moved.stats;
 --         moved.answer
 --     }
--- The borrow is opened, the place and the counters are copied out, the buffer is lent to g for a lifetime made for the
--- call and comes back (LentBuffer.antt), what g returned is stored, and the borrow is closed at the new parser. Another
--- order of the statements is other MIR, and another walk. LentFeed.antt has the contracts, LentCall.antt f's code and
--- the call.
---   lent-feed      f meets its contract, where g meets its own
+-- The borrow is opened, and the place and counters are copied out. The buffer is lent to g for a lifetime made for the
+-- call, and comes back (LentBuffer.antt). What g returned is stored, and the borrow is closed at the new parser.
+-- Another order of the statements needs another walk. LentFeed.antt has the contracts, LentCall.antt f's code and the
+-- call.
+--   lent-feed      f meets its contract, if g meets its own
 -- Assumes nothing.
 use mathlib.Core.Path.{refl, sym}
 use Prim.Native.Nat.{ℕ, suc}

@@ -1,18 +1,18 @@
--- The laws of the theory of parsers, in the order in which they lean on one another.
+-- The laws of the theory of parsers. Each file uses only files before it.
 
--- Runs, taken apart.
+-- A run of two lists of calls, one after the other.
 pub mod Runs
--- The stretches, and where a call stands in them.
+-- The stretches, and which of them a call lies in.
 pub mod Stretches
--- What one call of an engine has to do, so that every list of calls is right.
+-- What each call must do so that every list of calls is right.
 pub mod Lawful
--- A byte delivers the frame that it ends.
+-- A byte delivers the frame that it ends, if that decodes.
 pub mod Deliveries
 -- Answers and counts after a pending string.
 pub mod OneByte
--- What a lawful engine's calls come to.
+-- Each call on a lawful engine is right by itself.
 pub mod Moves
--- At a place one frame ends, one answer is right, and one count.
+-- At most one frame ends at a place, so only one answer and one count are right.
 pub mod Sure
 -- A call that is right after what is pending is right in its stretch.
 pub mod Rights
@@ -20,43 +20,43 @@ pub mod Rights
 pub mod Fulfilled
 -- Every byte taken is accounted for.
 pub mod Accounts
--- The claim leaves no choice.
+-- Two engines that fulfil the claim do the same.
 pub mod Same
--- Calls without a reset.
+-- What calls without a reset took and delivered.
 pub mod Taken
--- A call that took a frame's last byte.
+-- A call that took a frame's last byte took none after it.
 pub mod LastByte
--- It delivered the frame, and the calls before and after it the others.
+-- That call delivered the frame, and the other calls the other frames.
 pub mod Delivered
 -- An empty slice takes no byte, and delivers nothing.
 pub mod Empty
 -- Bytes fed one by one are one stretch.
 pub mod Feeds
--- A run that is stored and resumed is as one run.
+-- A run that is stored and resumed does what one run does.
 pub mod Resumed
--- What every byte fed keeps, bytes fed up to a frame's end keep.
+-- A property that each byte fed keeps is kept up to a frame's end.
 pub mod Until
--- A slice call that resets first what is out of range.
+-- A slice call that first resets a state out of range.
 pub mod Still
--- What a lawful engine's claims are made of.
+-- The claims about a lawful engine, together.
 pub mod Claimed
--- Facts of a contract, shown of nothing.
+-- Facts of a contract, proved from no resource.
 pub mod Facts
--- From a walk to a routine.
+-- From the walk of a function's MIR to its routine.
 pub mod Routines
--- A field of a plain type.
+-- A struct field of a plain type.
 pub mod PlainField
--- The type of a parser that is lent, and such a parser in memory.
+-- The type of a parser lent by `&mut`, and such a parser in memory.
 pub mod LentType
--- Its buffer, lent for a call.
+-- The parser's buffer, lent for a call.
 pub mod LentBuffer
--- A feed of a parser that is lent: what it is made of, and its contract.
+-- A feed of a lent parser: its parts and its contract.
 pub mod LentFeed
--- Its call and its exit.
+-- The feed's code, its call of the step, and its exit.
 pub mod LentCall
--- Its walk, which meets the contract.
+-- The walk of the feed: it meets its contract.
 pub mod LentWalk
--- A reset of a parser that is lent: its contract and its call.
+-- A reset of a lent parser: its contract, its code and its call.
 pub mod LentReset
--- Its walk, which meets the contract.
+-- The walk of the reset: it meets its contract.
 pub mod LentResetWalk

@@ -1,4 +1,4 @@
--- What a lawful engine's calls come to: bytes fed, and slices.
+-- Each call on a lawful engine is right by itself: a byte fed, and a slice.
 use mathlib.Core.Path.{_≡_, refl, sym, _∙_, ap}
 use mathlib.Core.List.{List, [], _∷_, _++_}
 use mathlib.Core.Option.{Option, none, some}
@@ -19,14 +19,14 @@ use Rattle.engine.proofs.OneByte.{Answering, no-byte, RightAfter, answe
 use Rattle.engine.proofs.OneByte.{told-here}
 use Rattle.engine.proofs.Deliveries.{ifDelivered, answersOf, none-delivered, quiet-more, byte-delivers}
 
--- A call that is the first after p, whatever follows.
+-- A call that did d, with p pending, is right whatever follows.
 pub record DidRight (F : Framing) {A : Type 0} (D : Decoding A) (p : List ℕ) (d : Did A) : Type 0 where
   pub right : (v : List ℕ) → RightAfter F D p [] (taken d ++ v) d
   pub delivered : delivery (D .delivers) d ≡ answersOf D (closed F p (taken d))
 
 module _ (F : Framing) {S A K : Type 0} (D : Decoding A) (C : Counting K) (E : Engine S A K)
     {Valid : S → Type 0} (L : Lawful F D C E Valid) where
-  -- The state s′ is what s comes to by the bytes t.
+  -- The bytes t lead from the state s to s′.
   pub record Moves (s : S) (t : List ℕ) (s′ : S) : Type 0 where
     pub valid : Valid s′
     pub pending : E .pending s′ ≡ rest F (E .pending s) t
@@ -59,7 +59,7 @@ module _ (F : Framing) {S A K : Type 0} (D : Decoding A) (C : Counting K) (E : E
     delivered = byte-delivers D F (E .pending s) b (E .feed s b .1) (L .feed-answer s b ok h);
   }
 
-  -- A slice call is right.
+  -- The result r of a slice call with the bytes bs is right.
   pub record SliceRight (s : S) (bs : List ℕ) (r : Sliced S A) : Type 0 where
     pub moves : Moves s (take (r .told) bs) (r .state)
     pub answered : (v : List ℕ) → Answering D (from F (E .pending s) (take (r .told) bs ++ v))
@@ -68,7 +68,7 @@ module _ (F : Framing) {S A K : Type 0} (D : Decoding A) (C : Counting K) (E : E
     pub delivered : ifDelivered D (r .answer) ≡ answersOf D (closed F (E .pending s) (take (r .told) bs))
 
   module _ (s : S) (b : ℕ) (bs : List ℕ) (ok : Valid s) (h : Byte b) where
-    -- The byte ends a frame, and the call is over; or it does not, and the call goes on as r.
+    -- The result if b ends a frame; and if it does not and the rest of the slice gives r.
     abbrev stops : Sliced S A
     stops = record { state = E .feed s b .0; told = 1; answer = E .feed s b .1 }
 

@@ -1,4 +1,4 @@
--- Answers and counts after the open string p: what one byte does to them, and bytes that stand before a call.
+-- When answers and counts are right after the open string p: for one byte, and with more bytes before the call.
 use mathlib.Core.Path.{_≡_, refl, sym, _∙_, ap, subst}
 use mathlib.Core.Logic.{_≢_}
 use mathlib.Core.List.{List, [], _∷_, _++_, append-assoc, cons≢nil}
@@ -18,8 +18,8 @@ use Rattle.engine.specs.Calls.{Did, fed, sliced, cleared}
 use Rattle.engine.specs.Fulfilled.{Told, to-frame, to-end}
 use Rattle.engine.proofs.Lawful.{answerAt, Decoding}
 
--- The call took the bytes t after n bytes of a stretch with the pieces ps. Its answer is that of the frame that ends
--- with the last byte taken, and none where no frame ends there or no byte was taken.
+-- The call took the bytes t after n bytes of a stretch with the pieces ps. It answers with the frame that ends with the
+-- last byte taken, and "no frame" if no frame ends there or no byte was taken.
 pub data Answering {A : Type 0} (D : Decoding A) (ps : List Piece) (n : ℕ) (t : List ℕ) (a : A) : Type 0 where
   frame : (f : List ℕ) → t ≢ [] → EndsAt ps (n + length t) f → a ≡ D .answerOf f → Answering D ps n t a
   no-frame : t ≢ [] → ((f : List ℕ) → ¬ EndsAt ps (n + length t) f) → a ≡ D .none → Answering D ps n t a
@@ -29,7 +29,7 @@ pub placed : (ps : List Piece) {m n : ℕ} {f : List ℕ} → m ≡ n → EndsAt
 placed ps {f = f} e x = subst (λ (i : ℕ). EndsAt ps i f) e x
 
 module _ (F : Framing) where
-  -- What lies after bytes that the scanner has taken in is shifted.
+  -- The place where a frame ends after the bytes u, counted from after u and from before u.
   module _ (p u v : List ℕ) (n j : ℕ) (f : List ℕ) (h : 0 < j) where
     shifted-out : EndsAt (from F (rest F p u) v) (length (rest F p u) + n + j) f
         → EndsAt (from F p (u ++ v)) (length p + (length u + n) + j) f
@@ -116,7 +116,7 @@ module _ (F : Framing) where
         wider (no-byte z e) = no-frame cons≢nil
             (λ f y. no-event p b (t ++ v) q f (placed (from F p (b ∷ (t ++ v))) (omega (arith, ap length z)) y)) e
 
-    -- A whole call, after p and the bytes u of a stretch that has the bytes v.
+    -- A call is right after p and the bytes u; v are all the bytes after p, u included.
     abbrev pub RightAfter : (p u v : List ℕ) → Did A → Type 0
     RightAfter p u v (fed b a) = Answering D (from F p v) (length p + length u) (b ∷ []) a
     RightAfter p u v (sliced bs k a) = Answering D (from F p v) (length p + length u) (take k bs) a

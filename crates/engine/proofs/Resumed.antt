@@ -1,4 +1,5 @@
--- From the claim alone: a run that is stored, and goes on in a state that stands for the same, is as one run.
+-- From the claim alone: a run that is stored and resumed in a state with the same pending string and counters does what
+-- one run does.
 use mathlib.Core.Path.{_≡_, _∙_, ap, subst}
 use mathlib.Core.List.{List, _++_}
 use Prim.Native.Nat.{ℕ}
@@ -13,8 +14,7 @@ use Rattle.engine.proofs.Same.{same}
 
 module _ (F : Framing) {S S′ A K : Type 0} (D : Decoding A) (C : Counting K) (E : Engine S A K)
     (E′ : Engine S′ A K) where
-  -- The calls cs on E, and then ds on E′ from a state that stands for the same as the one left, do what cs and ds do on
-  -- E.
+  -- The calls cs are made on E, then ds on E′ from s′.
   pub resumed : (s : S) (s′ : S′) (cs ds : List Call)
       → Fulfilled (protocolOf F D C) E (E .pending (final E s cs)) (final E s cs) ds
       → Fulfilled (protocolOf F D C) E′ (E′ .pending s′) s′ ds

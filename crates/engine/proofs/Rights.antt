@@ -1,5 +1,5 @@
 -- A call that is right after what is pending is right in its stretch.
---   Rights u ds   the claim about each call of a history ds that goes on after the bytes u of a stretch
+--   Rights u ds   the claim about each call of a history ds, which begins after the bytes u of a stretch
 use mathlib.Core.Path.{_≡_, refl, _∙_, ap, subst}
 use mathlib.Core.List.{List, [], _∷_, _++_, append-nil, nil≢cons, head-eq-of-cons-eq, tail-eq-of-cons-eq}
 use mathlib.Core.Bool.{Bool, true, false}
@@ -41,7 +41,7 @@ module _ (F : Framing) {A K : Type 0} (D : Decoding A) (C : Counting K) where
   abbrev pub P : Protocol A K
   P = protocolOf F D C
 
-  -- The answer is that of the frame that ended, or "no frame": so a call delivers exactly what it has to.
+  -- The answer is that of the frame that ended, or "no frame": so the call delivers exactly what it should.
   exactly : {s u t : List ℕ} {ps : List Piece} {a : A} → Divides F s ps → Answering D ps (length u) t a
       → Answered P ps u t a
   exactly {u = u} {t} {ps} {a} d (frame f ne x e) = go (D .decodes f) refl
@@ -82,7 +82,7 @@ module _ (F : Framing) {A K : Type 0} (D : Decoding A) (C : Counting K) where
   abbrev pub pieces : List ℕ → List Piece
   pieces t = divided F t .pieces
 
-  -- A call that is right after what is pending is right after all that its stretch has taken.
+  -- A call that is right after the bytes u of a stretch that began empty is right by the claim.
   right-at : (u v : List ℕ) (d : Did A) → RightAfter F D [] u (u ++ (taken d ++ v)) d → CallRight P pieces u v d
   unfolding divided
   right-at u v (fed b a) x =

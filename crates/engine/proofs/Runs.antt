@@ -1,4 +1,4 @@
--- Runs, taken apart where one list of calls follows another.
+-- A run of two lists of calls is the run of the first, then that of the second.
 use mathlib.Core.Path.{_≡_, refl, ap}
 use mathlib.Core.List.{List, [], _∷_, _++_}
 use Rattle.engine.specs.Runs.{Machine, history, final}

@@ -1,4 +1,4 @@
--- The claim leaves no choice: two engines of which it holds do the same, whatever the calls.
+-- Two engines for which the claim holds do the same, if they begin with equal pending strings, counters and max.
 use mathlib.Core.Path.{_≡_, refl, sym, _∙_, ap}
 use mathlib.Core.Logic.{_↔_}
 use mathlib.Core.List.{List, [], _∷_, _++_}
@@ -21,7 +21,7 @@ use Rattle.engine.proofs.Rights.{Rights}
 use Rattle.engine.proofs.Accounts.{same-over}
 
 module _ (F : Framing) where
-  -- What ends with the last byte of t, after u, does not depend on what follows.
+  -- Which frame ends with the last of the bytes c ∷ t, after u, does not depend on what follows.
   same-end : (u : List ℕ) (c : ℕ) (t v w : List ℕ) {ps qs : List Piece} → Divides F (u ++ (c ∷ t ++ v)) ps
       → Divides F (u ++ (c ∷ t ++ w)) qs → (f : List ℕ)
       → EndsAt ps (length u + suc (length t)) f → EndsAt qs (length u + suc (length t)) f
@@ -31,7 +31,7 @@ module _ (F : Framing) where
       (same-end (u ++ (c ∷ [])) b t v w (rw (← append-snoc u c (b ∷ t ++ v)) at d)
       (rw (← append-snoc u c (b ∷ t ++ w)) at e) f (placed ps (omega (arith, length-append u (c ∷ []))) x))
 
-  -- So the frame that the last byte of t ends does not either.
+  -- The same of any bytes t, none included.
   pub same-last : (u t v w : List ℕ) {ps qs : List Piece} → Divides F (u ++ (t ++ v)) ps → Divides F (u ++ (t ++ w)) qs
       → (f : List ℕ) → LastEnds ps u t f ↔ LastEnds qs u t f
   same-last u [] v w d e f = ((λ x. absurd (x .0 refl)), (λ x. absurd (x .0 refl)))
@@ -94,7 +94,7 @@ module _ (F : Framing) {S S′ A K : Type 0} (D : Decoding A) (C : Counting K)
         (λ before d after e. q (d₂ ∷ before) d after (ap (λ (l : List (Did A)). d₂ ∷ l) e)) in
         cc
 
-    -- So equal histories have equal sums, and equal ends.
+    -- Equal histories have equal totals, and equal unfinished ends.
     same-total : (k : K) (p : List ℕ) {ds es : List (Did A)} → ds ≡ es
         → sumOver (λ t. total C k (px t)) (stretches p ds) ≡ sumOver (λ t. total C k (py t)) (stretches p es)
     same-total k p {ds} {es} e = ap (λ l. sumOver (λ t. total C k (px t)) (stretches p l)) e
@@ -104,7 +104,7 @@ module _ (F : Framing) {S S′ A K : Type 0} (D : Decoding A) (C : Counting K)
     same-cut : (p : List ℕ) {ds es : List (Did A)} → ds ≡ es → cut (px (soFar p ds)) ≡ cut (py (soFar p es))
     same-cut p {ds} {es} e = ap (λ l. cut (px (soFar p l))) e ∙ ap cut (same-pieces F x y (soFar p es))
 
-  -- The theorem: from the claim alone, with the same string pending, equal counters to start with, and the same max.
+  -- The theorem, from the claim alone.
   pub same : (p : List ℕ) (s : S) (s′ : S′) (calls : List Call) → Fulfilled P E p s calls → Fulfilled P E′ p s′ calls
       → E .max ≡ E′ .max → ((k : K) → E .counter k s ≡ E′ .counter k s′) → Same E E′ s s′ calls
   same p s s′ calls x y max start =

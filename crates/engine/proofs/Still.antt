@@ -1,5 +1,5 @@
--- A slice call that resets first what is out of range (`still`): where that changes nothing that a feed sees, the call
--- does what its bytes do from the state itself.
+-- A slice call that first resets a state out of range (`still`). If the reset changes neither what a feed does nor what
+-- is pending, a slice that is not empty does what its bytes do from the state itself.
 use mathlib.Core.Path.{_≡_, ap, _∙_}
 use mathlib.Core.List.{List, [], _∷_}
 use Prim.Native.Nat.{ℕ}
@@ -16,7 +16,7 @@ module _ (F : Framing) {S A K : Type 0} (D : Decoding A) (E : Engine S A K) (Val
       → E .slice s (b ∷ bs) ≡ feedUntil F D E s (b ∷ bs)
   slice-until s b bs v h = slice-still s (b ∷ bs) v h ∙ rw (same-feed s b, same-pending s)
 
-  -- So what is pending, told, answered and counted is what the bytes do from the state itself.
+  -- So does every slice in what `get` reads of the result, if the empty slice does.
   pub same-until : {X : Type 0} (get : Sliced S A → X) (s : S) → Valid s
       → get (feedUntil F D E (still s) []) ≡ get (feedUntil F D E s []) → (bs : List ℕ) → Bytes bs
       → get (E .slice s bs) ≡ get (feedUntil F D E s bs)

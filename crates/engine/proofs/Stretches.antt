@@ -1,4 +1,4 @@
--- The stretches of a history are all that was pending and taken, and each call stands in one of them.
+-- The stretches of a history, joined, are all that was pending and taken. Each call but a reset lies in one of them.
 use mathlib.Core.Path.{_≡_, refl, _∙_, ap, subst}
 use mathlib.Core.List.{List, [], _∷_, _++_, append-assoc, append-nil, List·Memᴰ, List·Memᴰ·head, List·Memᴰ·tail}
 use Prim.Native.Nat.{ℕ}
@@ -14,14 +14,14 @@ module _ {A : Type 0} where
       stretches-joined ds (p ++ take k bs) ∙ append-assoc p (take k bs) (takenBy ds)
   stretches-joined (cleared ∷ ds) p = ap (λ (l : List ℕ). p ++ l) (stretches-joined ds [])
 
-  -- The stretch so far, where calls follow others.
+  -- The stretch so far, after two lists of calls.
   pub so-far-append : (ds : List (Did A)) (p : List ℕ) (es : List (Did A)) → soFar p (ds ++ es) ≡ soFar (soFar p ds) es
   so-far-append [] p es = refl
   so-far-append (fed b a ∷ ds) p es = so-far-append ds (p ++ (b ∷ [])) es
   so-far-append (sliced bs k a ∷ ds) p es = so-far-append ds (p ++ take k bs) es
   so-far-append (cleared ∷ ds) p es = so-far-append ds [] es
 
-  -- The first stretch.
+  -- The first stretch: what was pending, and taken up to a reset.
   first-is : (ds : List (Did A)) (p : List ℕ) → List·Memᴰ (p ++ upToReset ds) (stretches p ds)
   first-is [] p = List·Memᴰ·head (append-nil p)
   first-is (fed b a ∷ ds) p =

@@ -1,4 +1,4 @@
--- The division leaves no choice: at a place at most one frame ends, and so one answer and one count are right.
+-- The division leaves no choice: at most one frame ends at a place, so only one answer and one count are right.
 use mathlib.Core.Path.{_≡_, refl, sym, _∙_}
 use mathlib.Core.Logic.{_↔_}
 use mathlib.Core.Bool.{Bool, true, false}
@@ -15,7 +15,7 @@ use Rattle.framing.proofs.Events.{late}
 use Rattle.engine.specs.Fulfilled.{Protocol, LastEnds, Answered, Told, to-frame, to-end}
 
 module _ (F : Framing) where
-  -- No frame of a division is empty.
+  -- No frame of a division ends at place 0.
   after-start : {s : List ℕ} {ps : List Piece} {n : ℕ} {f : List ℕ} → Divides F s ps → Ends ps n f → 0 < n
   after-start {s} {ps} {n} {f} d x = late F [] s n f (rw (scanner-complete F d) at x)
 
@@ -37,7 +37,7 @@ module _ (F : Framing) where
 pub clash : (b : Bool) → b ≡ true → b ≡ false → ⊥
 clash b p q = let z : _≡_ {A = ℕ} 0 1 = cc in omega arith
 
--- Where the same frames end, one answer is right.
+-- If the same frames end with the last byte taken, the right answers are equal.
 pub answer-unique : {A K : Type 0} (P : Protocol A K) {ps qs : List Piece} {u t : List ℕ} {a b : A}
     → ((f : List ℕ) → LastEnds ps u t f ↔ LastEnds qs u t f) → Answered P ps u t a → Answered P qs u t b → a ≡ b
 answer-unique P {a = a} {b} same x y = go (P .delivers a) (P .delivers b) refl refl

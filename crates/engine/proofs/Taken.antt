@@ -1,4 +1,4 @@
--- Calls without a reset: what they took and delivered, and which of them took a byte.
+-- What calls without a reset took and delivered, and which call took the n-th byte.
 use mathlib.Core.Path.{_≡_, refl, sym, _∙_, ap}
 use mathlib.Core.List.{List, [], _∷_, _++_, append-assoc, append-nil}
 use mathlib.Core.Bool.{Bool}
@@ -29,7 +29,7 @@ module _ {A : Type 0} where
       (sym (append-assoc (delivery delivers d) (deliveries delivers ds) (deliveries delivers es)))
 
 module _ {S A K : Type 0} (E : Engine S A K) where
-  -- Without a reset all that is taken is taken before the first.
+  -- Without a reset, the bytes taken up to the first reset are all the bytes taken.
   pub up-to-end : (calls : List Call) (s : S) → Every Goes calls
       → upToReset (history E s calls) ≡ takenBy (history E s calls)
   up-to-end [] s g = refl
@@ -77,7 +77,7 @@ module _ {S A K : Type 0} (E : Engine S A K) where
       go more (yes u) = reach-more c cs s n u
           (more (n - length t) (omega arith) (omega (arith, length-append t (takenBy (history E s₁ cs)))))
 
-  -- Without a reset the calls deliver what the pieces of the one stretch do.
+  -- Without a reset, the calls deliver the frames of their one stretch that decode, in order.
   pub stretch-delivered : (F : Framing) (D : Decoding A) (C : Counting K) (p : List ℕ) (s : S) (calls : List Call)
       → Fulfilled (protocolOf F D C) E p s calls → Every Goes calls → (ps : List Piece)
       → Divides F (p ++ takenBy (history E s calls)) ps

@@ -1,4 +1,4 @@
--- What every byte fed keeps, bytes fed up to a frame's end keep.
+-- A property of states that each byte fed keeps is kept by bytes fed up to a frame's end. The parsers cite it.
 use mathlib.Core.List.{List, [], _∷_}
 use mathlib.Core.Option.{Option, none, some}
 use Prim.Native.Nat.{ℕ, suc}

@@ -23,12 +23,12 @@ use Rattle.engineering.specs.Block.{checkedBlock, noBlock, extraBytes, e
 use Rattle.engineering.specs.declared.Engineering.{Engineering}
 use Rattle.engineering.specs.declared.CheckedEngineering.{CheckedEngineering}
 
--- The length of a part, from the places where it starts and ends.
+-- The length of a part that starts at place i and ends at place i + n.
 cancel : (i n : ℕ) → i + n - i ≡ n
 cancel i n = omega arith
 
 module _ (b : List ℕ) where
-  -- What is read where the block fits, and where it does not.
+  -- The answer if the block fits, and if it does not.
   block-fits : gatesFit b ≡ true → checkedBlock b ≡ record { failed = Maybe.None; engineering = engineeringOf b }
   unfolding checkedBlock
   block-fits h = rw h
@@ -38,7 +38,7 @@ module _ (b : List ℕ) where
   unfolding checkedBlock
   block-unfit o k e n f = rw (f, gates-none b (sym e ∙ n))
 
-  -- The fields one by one, as they are read: g are the counts, p, q and r what is copied.
+  -- The fields as the code reads them: g are the counts; p, q and r the copies; n is `extra_len`.
   pub block-read : (o : MaybeGates) (g : Gates) {p q r : List ℕ} {n : ℕ} → o ≡ gatesAt b → o ≡ MaybeGates.Some g
       → p ≡ padded 9 (take (2 + g .moving - 2) (drop 2 b))
       → q ≡ padded 9 (take (2 + g .moving + g .stationary - (2 + g .moving)) (drop (2 + g .moving) b))

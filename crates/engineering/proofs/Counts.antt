@@ -58,7 +58,7 @@ module _ (b : List ℕ) where
   unfolding gatesAt
   gates-unfit h = rw (fits-not h)
 
-  -- What is read: nothing where a count is missing or above nine, or the last energy is missing; else both counts.
+  -- What is read: nothing if a count is missing or above nine, or the last energy is missing; else both counts.
   pub gates-short : length b < 2 → None ≡ gatesAt b
   gates-short h = gates-unfit (λ f. omega arith)
 
@@ -89,7 +89,7 @@ module _ (b : List ℕ) where
         let fit : Fits b = omega (arith, moving, stationary) in
         rw (fits-complete fit, moving, stationary)
 
-  -- What the counts say of the block.
+  -- What the answer says of the block.
   pub gates-some : (g : Gates) → gatesAt b ≡ Some g → (gatesFit b ≡ true) × (g ≡ gatesOf b)
   unfolding gatesAt
   gates-some g e = let t = cond-true (gatesFit b) _ None e (λ q. cc) in (t, cc)

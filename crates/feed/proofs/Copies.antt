@@ -21,7 +21,7 @@ use Rattle.step.proofs.Runs.{run-next, run-on}
 use Rattle.scan.proofs.DataAt.{data-some, data-whole}
 use Rattle.step.proofs.Turns.{data-step, step-as, stored-as}
 
--- The n bytes from number i on are there, and no more than the data bytes that are due.
+-- bs has n bytes from byte i on, at least one, and no more than the data bytes that are due.
 pub record Due (limit : ℕ) (c : Scan) (bs : List ℕ) (i n : ℕ) : Type 0 where
   pub some : 0 < n
   pub there : i + n ≤ length bs
@@ -39,7 +39,7 @@ min-due limit c bs i n h e =
       few = data-most limit c (h .order) (h .state);
     }
 
--- The run from number i with p of n data bytes taken is the run from number i + j with j more, copied to d.
+-- The run from byte i, with p of n data bytes taken, is the run from byte i + j, with j more taken and d the buffer.
 abbrev pub Copied : ℕ → Kind → ℕ → ℕ → Stats → List ℕ → List ℕ → ℕ → List ℕ → ℕ → Type 0
 Copied limit k n p st buf bs i d j =
     runFrom limit (dataAt k n (p + j)) st d bs (i + j) ≡ runFrom limit (at Data k 0 n p) st buf bs i
@@ -62,7 +62,7 @@ module _ (limit : ℕ) (k : Kind) (n p : ℕ) (st : Stats) (buf bs : List ℕ) (
       inner (sym (data-step st k n (p + j))) refl refl
       ∙ ap (λ q. runFrom limit q st d bs (i + j)) (sym (data-some k n (p + j) l)) ∙ h
 
--- In the data the matched count has no use.
+-- Among the data bytes, the field `matched` has no effect.
 data-forgets : (limit : ℕ) (c : Scan) (st : Stats) (buf bs : List ℕ) (i : ℕ) → c .state ≡ Data → i < length bs
     → runFrom limit (at Data (c .kind) 0 (c .len) (c .pos)) st buf bs i ≡ runFrom limit c st buf bs i
 unfolding stepOf stored
@@ -76,7 +76,7 @@ data-forgets limit c st buf bs i e l =
 tail-no-data : Tail ≡ Data → ⊥
 tail-no-data e = let z : _≡_ {A = ℕ} 0 1 = cc in omega arith
 
--- As many bytes as are due or there, n of them, are copied to d.
+-- All data bytes that are due, or left in bs if fewer, n of them, are copied to d.
 pub record AllCopied (limit : ℕ) (c : Scan) (st : Stats) (buf bs : List ℕ) (i : ℕ) (d : List ℕ) (n : ℕ) : Type 0 where
   pub start : AtState limit Data c bs i
   pub fewest : n ≡ min (c .len - c .pos) (length bs - i)
@@ -106,12 +106,12 @@ module _ {limit : ℕ} {c : Scan} {st : Stats} {buf bs : List ℕ} {i : ℕ} {d 
     rest = rw e copied-same;
   }
 
-  -- All that are there: none is left.
+  -- Either no byte is left.
   pub copied-last : i + n ≡ length bs → DataRun limit c st buf bs i
       (record { scan = dataAt (c .kind) (c .len) (c .pos + n); stats = st; ended = Nothing; taken = i + n }) d
   copied-last e = copied-run _ refl (λ l. absurd (omega arith))
 
-  -- Or all that are due, and the tail follows.
+  -- Or all data bytes are copied, and the tail follows.
   pub copied-whole : (i + n ≡ length bs → ⊥) → DataRun limit c st buf bs i
       (record { scan = at Tail (c .kind) 0 (c .len) (c .len); stats = st; ended = Nothing; taken = i + n }) d
   copied-whole more = copied-run _
@@ -130,7 +130,7 @@ copied-nothing limit c st buf bs i o l n = record {
   rest = refl;
 }
 
--- After the data bytes: no more are there, or a part that is stored nowhere follows.
+-- After the data bytes, no byte is left, or a part follows in which nothing is stored.
 module _ {limit : ℕ} {c : Scan} {st : Stats} {buf bs : List ℕ} {i : ℕ} {r : Scanned} {d : List ℕ}
     (x : DataRun limit c st buf bs i r d) where
   pub data-last : i < length bs → r .taken ≡ length bs → PartialRun limit c st buf bs i r d

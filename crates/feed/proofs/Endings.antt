@@ -1,4 +1,4 @@
--- A frame that ended, decoded and counted, is what is emitted.
+-- What is emitted is the frame that ended, decoded and counted, or no frame.
 use mathlib.Core.Path.{_≡_, refl}
 use mathlib.Core.List.{List}
 use Prim.Native.Nat.{ℕ}
@@ -19,7 +19,7 @@ use Rattle.scan.specs.declared.stats.Ended.the-variants as Is
 use Rattle.feed.specs.Moved.{emitted}
 use Rattle.feed.specs.declared.feeding.Moved.{Moved}
 
--- Data decode exactly if they are read as a frame.
+-- Data are read as a frame exactly if no check fails.
 frame-if : (o : MaybeCheck) (i : ℕ) (k : Kind) (d : List ℕ)
     → isFrame (frameIf o (frameOf i k d) .frame .kind) ≡ holds (frameIf o (frameOf i k d) .failed)
 frame-if (Maybe.Some c) i k d = refl

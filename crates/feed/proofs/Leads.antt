@@ -1,4 +1,4 @@
--- Where the steps lead that store nothing: which end no frame, and which come to a tail.
+-- Steps that store nothing: which of them end no frame, and which lead to a tail.
 use mathlib.Core.Path.{_≡_, refl, sym, ap, _∙_}
 use mathlib.Core.Bool.{Bool, true, false, true≢false}
 use Prim.Native.Nat.{ℕ, _+_, _*_}
@@ -24,12 +24,12 @@ inTail Len = false
 inTail Data = false
 inTail Tail = true
 
--- No frame ended, and it is not in a tail.
+-- The step r ended no frame, and leads to no tail.
 record Early (r : Stepped) : Type 0 where
   pub quiet : r .ended ≡ Nothing
   pub early : inTail (r .scan .state) ≡ false
 
--- A step from the state s: one that stays there ends no frame, and one to a tail comes from a tail.
+-- The step r from the state s: if it stays in s, it ends no frame; if it leads to a tail, s is the tail.
 pub record Leads (s : State) (r : Stepped) : Type 0 where
   pub quiet : r .scan .state ≡ s → r .ended ≡ Nothing
   pub tail : r .scan .state ≡ Tail → s ≡ Tail
@@ -61,7 +61,7 @@ module _ (k : Kind) (m : ℕ) (st : Stats) (b : ℕ) where
       (λ z. either Early (inRange limit (n + 256 * b)) _ _ (λ e. record { quiet = refl; early = refl })
       (λ e. started (abandoned st 5) b))
 
-  -- A frame ends in the state that looks for a header.
+  -- A step that ends a frame leaves the tail.
   tail-leads : (n : ℕ) → Leads Tail (stepTail k m n st b)
   tail-leads n = either (Leads Tail) (eqb b (getD (tail k) m 0)) _ _
       (λ e. either (Leads Tail) (eqb m 3) _ _

@@ -1,6 +1,6 @@
 -- The parts in which nothing is stored: header, length and tail, byte by byte.
---   Within   a loop over the bytes, which began at number i, is at number j in the state in which it began
---   Turn     the loop's turn there: r is the step of the byte number j, which stores nothing
+--   Within   a loop over the bytes, which began at byte i, is at byte j, still in the state in which it began
+--   Turn     the loop's turn there: r is the step of byte j, which stores nothing
 use mathlib.Core.Path.{_≡_, refl, sym, _∙_}
 use mathlib.Core.List.{List}
 use Prim.Native.Nat.{ℕ, _+_, _≤_, _<_}
@@ -37,7 +37,7 @@ pub within-start : {limit : ℕ} {c : Scan} {st : Stats} {bs : List ℕ} {i : �
     → (c .state ≡ Data → ⊥) → Within limit c st bs i c st i
 within-start h o = record { here = h; other = o; forth = omega arith; same = λ buf. refl }
 
--- The turn by the step of a state that is known.
+-- A turn, once the state is known.
 pub turn-in : {limit : ℕ} {c : Scan} {st : Stats} {bs : List ℕ} {i : ℕ} {c′ : Scan} {st′ : Stats} {j : ℕ}
     {r : Stepped} (s : State) → Within limit c st bs i c′ st′ j → c .state ≡ s
     → r ≡ stepIn limit s (c′ .kind) (c′ .matched) (c′ .len) (c′ .pos) st′ (getD bs j 0) → getD bs j 0 < 256
@@ -82,6 +82,6 @@ module _ {limit : ℕ} {c : Scan} {st : Stats} {bs : List ℕ} {i : ℕ} {c′ :
         ∙ t .within .same buf;
   }
 
-  -- Which it does where it comes to a tail.
+  -- It does so if the step leads to a tail.
   pub turn-tail : r .scan .state ≡ Tail → j + 1 < length bs → Within limit c st bs i (r .scan) (r .stats) (j + 1)
   turn-tail z inner = turn-stays (z ∙ sym (leads .tail z)) inner

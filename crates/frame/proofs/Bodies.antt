@@ -1,4 +1,4 @@
--- What the data of a frame are read as, by their family: the readers of reports and of acknowledgements.
+-- What the data of a frame are read as, by its kind.
 use mathlib.Core.Path.{_≡_, sym, ap, _∙_}
 use mathlib.Core.List.{List}
 use Prim.Native.Nat.{ℕ}
@@ -19,7 +19,7 @@ use Rattle.frame.specs.declared.FrameKind.the-variants as Is
 use Rattle.frame.specs.declared.Frame.{Frame}
 use Rattle.frame.specs.declared.CheckedFrame.{CheckedFrame}
 
--- A frame, once every check held.
+-- The answer with the frame f, if every check holds.
 abbrev pub passingFrame : Frame → CheckedFrame
 passingFrame f = record { failed = Maybe.None; frame = f }
 

@@ -1,4 +1,4 @@
--- The reader's answer by its checks: those of the envelope, then the body's.
+-- The reader's answer, from its checks: those of the envelope, then those of the body.
 use mathlib.Core.Path.{_≡_, refl, ap, _∙_}
 use mathlib.Core.List.{List, [], _∷_}
 use Prim.Native.Nat.{ℕ, _+_, _<_}
@@ -22,7 +22,7 @@ use Rattle.frame.specs.Frame.{noFrame, returnedFrame}
 use Rattle.frame.specs.declared.Frame.{Frame}
 use Rattle.frame.specs.declared.FrameResult.{FrameResult}
 
--- Checks of the data, made on the frame that holds them.
+-- Checks of the data, made on the frame around them.
 pub on-data : (cs : Checks) (s : List ℕ) → firstFailed (onData cs) s ≡ firstFailed cs (dataOf s)
 on-data [] s = refl
 on-data (x ∷ cs) s = ap (λ o. orFailed (x .1 (dataOf s)) (x .0) o) (on-data cs s)
@@ -42,13 +42,13 @@ module _ (s : List ℕ) where
         on-data (bodyChecks k) s,
       )
 
--- What is framed is read as its data are.
+-- A frame is read as its data are.
 pub checked-framed : (k : Kind) (d : List ℕ) → length d < 65536 → checkedFrame (framed k d) ≡ decoded 10 k d
 checked-framed k d small =
     passes-framing (framed k d) k (6 + length d) (opened-framed k d small)
     ∙ ap (decoded 10 k) (framed-within k d small)
 
--- What an answer returns by its first failed check.
+-- What is returned for the first failed check.
 as-returned : (o : MaybeCheck) (f : Frame)
     → beside (outcomeOf (frameIf o f .failed)) (frameIf o f .frame) ≡ returned noFrame (outcomeOf o) f
 as-returned (Maybe.Some c) f = refl

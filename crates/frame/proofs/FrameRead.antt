@@ -1,5 +1,5 @@
--- For which strings the reader gives a frame: those of a family around data that pass the body's checks, and then it is
--- the one that these data are read as. The same for reports and for acknowledgements.
+-- The reader gives a frame exactly if the string is a frame around data that pass the checks of its kind; it is what
+-- these data are read as. One law for reports and acknowledgements.
 use mathlib.Core.Path.{_≡_, refl, ap}
 use mathlib.Core.List.{List}
 use Prim.Native.Nat.{ℕ, _<_}
@@ -31,7 +31,7 @@ use Rattle.frame.proofs.FrameChecked.{fails-framing, passes-framing, ch
 abbrev pub giving : Frame → FrameResult
 giving x = record { outcome = Ok; frame = x }
 
--- The family that holds frames of a kind.
+-- The `Kind` of the frames that are read as a `FrameKind`.
 abbrev pub familyOf : FrameKind → MaybeKind
 familyOf Is.Report = Found.Some Family.Report
 familyOf Is.Ack = Found.Some Family.Command
@@ -41,7 +41,7 @@ read-family : (k : Kind) (d : List ℕ) → familyOf (frameOf 10 k d .kind) ≡ 
 read-family Family.Report d = refl
 read-family Family.Command d = refl
 
--- Nothing is refused only where no check fails, and then the frame is the one that is read.
+-- If nothing is refused, no check failed, and the frame is the one that is read.
 unrefused : (o : MaybeCheck) {x y : Frame} → outcomeOf (frameIf o x .failed) ≡ Ok → frameIf o x .frame ≡ y
     → (o ≡ Maybe.None) × (x ≡ y)
 unrefused (Maybe.Some c) e q = let z : _≡_ {A = ℕ} 0 1 = cc in absurd (omega arith)

@@ -1,4 +1,4 @@
--- What is framed passes the checks of the envelope, and a byte string that passes them is the frame around its data.
+-- `framed k d` passes the checks of the envelope, and a byte string that passes them is the frame around its data.
 use mathlib.Core.Path.{_≡_, ap, _∙_}
 use mathlib.Core.List.{List}
 use Prim.Native.Nat.{ℕ, _+_, _<_}

@@ -1,11 +1,11 @@
 -- Laws about the definitions, which the proofs of this crate and of the crates above cite.
--- What the data of a frame are read as, by their family.
+-- What the data of a frame are read as, by its kind.
 pub mod Bodies
--- The envelope's answer by the checks, one after another, and what it means.
+-- The answer to the envelope, by its checks, and what it means.
 pub mod Opened
--- What is framed passes the checks of the envelope, and what passes them is framed.
+-- A frame passes the checks of the envelope, and bytes that pass them are a frame.
 pub mod Framed
--- The reader's answer by its checks.
+-- The reader's answer, from its checks.
 pub mod FrameChecked
--- For which strings the reader gives a frame, and which.
+-- The strings for which the reader gives a frame, and which frame.
 pub mod FrameRead

@@ -1,7 +1,5 @@
--- The answer by the checks, one after another, and what it means.
---   fails-F1 .. fails-F4, passes   the answer where a check is the first to fail, and where none fails
---   failed-first                   a check that is answered is the first to fail
---   Held, opened-data              a family and a place that are answered: every check holds of these data
+-- The answer to the envelope, if a check is the first to fail and if none fails (`fails-F1` to `passes`). And back:
+-- a check in the answer is the first to fail (`failed-first`); a kind and a place mean that all hold (`Held`).
 use mathlib.Core.Path.{_≡_, refl, ap}
 use mathlib.Core.List.{List}
 use mathlib.Core.Bool.{true, false}
@@ -26,7 +24,7 @@ use Rattle.frame.specs.Envelope.{family, announced, frameChecks, openedA
 use Rattle.frame.specs.declared.envelope.Envelope.the-variants.{Failed, Data}
 
 module _ (s : List ℕ) where
-  -- Fewer bytes than a header are none.
+  -- Fewer bytes than a header announce no kind.
   none-of : (o : MaybeKind) → family s ≡ o → length s < 4 → family s ≡ Found.None
   none-of (Found.Some k) e l =
       absurd (omega (arith, header-length k, ap length (header-sound (take 4 s) k e), length-take 4 s))

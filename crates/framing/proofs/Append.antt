@@ -1,4 +1,4 @@
--- A division of s ++ t begins with the finished pieces of s, and goes on as that of its unfinished end and t.
+-- A division of s ++ t is the finished pieces of s, and then a division of the unfinished end of s with t behind it.
 use mathlib.Core.Path.{_≡_, refl, sym, _∙_, ap}
 use mathlib.Core.List.{List, [], _∷_, _++_, append-nil}
 use Prim.Native.Nat.{ℕ, _+_}
@@ -21,7 +21,7 @@ leftover-cut : (p : List ℕ) → cut (leftover p) ≡ p
 leftover-cut [] = refl
 leftover-cut (b ∷ p) = append-nil (b ∷ p)
 
--- A tally counts the finished pieces alone.
+-- Only finished pieces add to a counter.
 pub finished-total : {K : Type 0} (C : Counting K) (k : K) (ps : List Piece) → total C k (finished ps) ≡ total C k ps
 finished-total C k [] = refl
 finished-total C k (stray b ∷ ps) = omega (arith, finished-total C k ps)
@@ -30,7 +30,7 @@ finished-total C k (whole s ∷ ps) = omega (arith, finished-total C k ps)
 finished-total C k (unfinished s ∷ ps) = omega (arith, finished-total C k ps, C .cut-adds-nothing k s)
 
 module _ (F : Framing) where
-  -- Whatever a byte closes is finished, whatever stands after it.
+  -- The pieces that a byte closes are finished, whatever pieces follow.
   module _ (qs : List Piece) where
     does-finished : {p : List ℕ} {c : ℕ} {r : Step} → Does F p c r
         → finished (r .closed ++ qs) ≡ r .closed ++ finished qs
@@ -72,7 +72,7 @@ module _ (F : Framing) where
     rw (division-cut d) (scanner-sound F (rest F [] s) t (rest-waits F [] s (nothing-waits F))),
   )
 
-  -- So the totals of s ++ t are those of s, and those of its unfinished end and t.
+  -- So totals add up: those of s, and of its unfinished end with t behind it.
   pub total-append : {K : Type 0} (C : Counting K) (k : K) {s : List ℕ} (t : List ℕ) {ps qs rs : List Piece}
       → Divides F s ps → Divides F (s ++ t) qs → Divides F (cut ps ++ t) rs
       → total C k qs ≡ total C k ps + total C k rs

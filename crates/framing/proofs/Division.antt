@@ -39,7 +39,7 @@ pub division-length : {O W : List ℕ → Type 0} {s : List ℕ} {ps : List Piec
     → length s ≡ sum lost ps + sum waiting ps + sum inFrames ps
 division-length {s = s} {ps} d = ap length (sym (division-spelled d)) ∙ parts ps
 
--- Where a whole frame is the last piece, it ends with the string.
+-- If the last piece is a whole frame, it ends where the string ends.
 pub last-place : {O W : List ℕ → Type 0} {s : List ℕ} (ps : List Piece) (f : List ℕ)
     → Division O W s (ps ++ (whole f ∷ [])) → length (spelled ps ++ f) ≡ length s
 last-place ps f d = ap length (ap (λ (l : List ℕ). spelled ps ++ l) (sym (append-nil f))

@@ -1,4 +1,4 @@
--- Where frames end in a list of pieces: piece by piece, after other pieces, and past them.
+-- Where frames end in a list of pieces: piece by piece, and with other pieces in front.
 use mathlib.Core.Path.{_≡_, refl, sym, _∙_, ap, subst}
 use mathlib.Core.List.{List, [], _∷_, _++_, append-assoc}
 use Prim.Native.Nat.{ℕ, _+_, _<_}
@@ -7,7 +7,7 @@ use lib.ListN.{length, length-append}
 use Rattle.framing.specs.Piece.{Piece, whole, bytes, spelled}
 use Rattle.framing.specs.Division.{EndsAt}
 
--- `EndsAt` by the pieces, one after another.
+-- `EndsAt`, piece by piece.
 pub data Ends : List Piece → ℕ → List ℕ → Type 0 where
   here : {g : List ℕ} {ps : List Piece} {n : ℕ} {f : List ℕ} → g ≡ f → length g ≡ n → Ends (whole g ∷ ps) n f
   later : {p : Piece} {ps : List Piece} {m n : ℕ} {f : List ℕ} → Ends ps m f → length (bytes p) + m ≡ n
@@ -19,7 +19,7 @@ ends-nil x = elim x [ ]
 pub ends-to : {ps : List Piece} {m n : ℕ} {f : List ℕ} → m ≡ n → Ends ps m f → Ends ps n f
 ends-to {ps} {f = f} e x = subst (λ (k : ℕ). Ends ps k f) e x
 
--- One piece further in front.
+-- With one more piece in front.
 ends-on : (p : Piece) {ps : List Piece} {m : ℕ} {f : List ℕ} → Ends ps m f → Ends (p ∷ ps) (length (bytes p) + m) f
 ends-on p {m = m} x = later {p = p} {n = length (bytes p) + m} x refl
 
@@ -48,14 +48,14 @@ ends-among (p ∷ before) after f = ends-to (sym (ap length (append-assoc (bytes
 pub ends-in : {ps : List Piece} {n : ℕ} {f : List ℕ} → EndsAt ps n f → Ends ps n f
 ends-in {ps} {n} {f} r = rw (r .split) (ends-to (r .place) (ends-among (r .before) (r .after) f))
 
--- After other pieces a frame ends that much later.
+-- With the pieces qs in front, a frame ends later by their bytes.
 pub ends-after : (qs : List Piece) {ps : List Piece} {n : ℕ} {f : List ℕ} → Ends ps n f
     → Ends (qs ++ ps) (length (spelled qs) + n) f
 ends-after [] x = ends-to (omega arith) x
 ends-after (q ∷ qs) x =
     ends-to (omega (arith, length-append (bytes q) (spelled qs))) (ends-on q (ends-after qs x))
 
--- And one that ends past the first pieces is among the others.
+-- A frame that ends past the bytes of qs is among the pieces after qs.
 pub ends-past : (qs : List Piece) {ps : List Piece} {n m : ℕ} {f : List ℕ} → Ends (qs ++ ps) n f
     → length (spelled qs) + m ≡ n → 0 < m → Ends ps m f
 ends-past [] x e h = ends-to (omega arith) x

@@ -1,4 +1,4 @@
--- Where the scanner ends a frame, there a whole piece of the division ends, also when more bytes follow.
+-- The scanner ends a frame exactly where a whole frame of the division ends, whatever bytes follow.
 use mathlib.Core.Path.{_≡_, refl, ap}
 use mathlib.Core.Logic.{_↔_}
 use mathlib.Core.List.{List, [], _∷_, _++_}
@@ -19,7 +19,7 @@ pub none≢some : {f : List ℕ} → _≡_ {A = Option (List ℕ)} none (some f)
 none≢some e = let z : _≡_ {A = ℕ} 0 1 = cc in omega arith
 
 module _ (F : Framing) where
-  -- A frame among the pieces after p ends past p.
+  -- After the pending string p, every frame ends past the bytes of p.
   late-end : (p : List ℕ) (n : ℕ) (f : List ℕ) → Ends (leftover p) n f → length p < n
   late-end [] n f x = absurd (ends-nil x)
   late-end (b ∷ p) n f (later x h) = absurd (ends-nil x)
@@ -65,7 +65,7 @@ module _ (F : Framing) where
       → Ends (from F p (c ∷ t)) (suc (length p)) f
   event-step p c t f x = event-does t (does F p c) x
 
-  -- Bytes that the scanner has taken in shift what is after them.
+  -- Bytes taken shift the ends of later frames.
   shift-one : (p : List ℕ) (c : ℕ) (v : List ℕ) (j : ℕ) (f : List ℕ) → 0 < j →
       let q : List ℕ = step F p c .pending in
       Ends (from F p (c ∷ v)) (length p + suc j) f ↔ Ends (from F q v) (length q + j) f
@@ -86,7 +86,7 @@ module _ (F : Framing) where
         (λ x. ends-to (omega arith) (one .1 (more .1 x))),
       )
 
-  -- The byte c after s ends a frame if and only if a whole piece of any division that goes on from there ends there.
+  -- The byte c after s ends the frame f if and only if f ends there in the division, whatever bytes t follow.
   pub event : (s : List ℕ) (c : ℕ) (t : List ℕ) {ps : List Piece} → Divides F (s ++ (c ∷ t)) ps → (f : List ℕ)
       → EndsAt ps (length s + 1) f ↔ (step F (rest F [] s) c .ended ≡ some f)
   event s c t {ps} d f =

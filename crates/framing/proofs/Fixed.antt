@@ -1,4 +1,4 @@
--- Frames of a fixed length, each place of which holds a given byte or any byte: they make a framing.
+-- Frames of a fixed length: each place holds a given byte, or any byte. They make a framing.
 --   begins xs s   the string s is the beginning of a frame of the pattern xs
 --   fills xs s    s is a frame of the pattern xs
 --   fixed x xs    the tests of the pattern x, xs

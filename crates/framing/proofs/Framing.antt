@@ -1,21 +1,21 @@
--- Which strings a protocol's frames are made of, with what the theory of divisions needs of them.
---   Laws       the five laws between the strings that may become a frame and those that are one
+-- Which strings are open and which are whole frames, with the laws that the theory of divisions needs.
+--   Laws       the five laws of open strings and whole frames
 --   Framing    such strings, with a decision for each, and the laws
---   Waits      a string that may become a frame and is none yet
---   Divides    a division over the framing's strings; DividedIn, that there is one and no other
+--   Waits      a string that is open and not whole
+--   Divides    a division over the framing's strings; DividedIn, that there is exactly one
 use mathlib.Core.List.{List, [], _∷_, _++_}
 use Prim.Native.Nat.{ℕ}
 use Rattle.framing.specs.Piece.{Piece}
 use Rattle.framing.specs.Division.{Division, Divided}
 
--- Open: some frame may begin so. Whole: it is a frame; it is open too, the last open string on a frame's way.
+-- Open: the string may become a frame. Whole: it is a frame; it counts as open too.
 pub record Laws (Open Whole : List ℕ → Type 0) : Type 0 where
-  -- before the first byte any frame may come, and none has
+  -- before the first byte, any frame may come, and none is complete
   pub empty-open : Open []
   pub empty-not-whole : ¬ Whole []
-  -- what begins an open string is open
+  -- every prefix of an open string is open
   pub open-prefix : (s t : List ℕ) → Open (s ++ t) → Open s
-  -- a whole frame was open up to its last byte, and no byte goes on with it
+  -- a whole frame is open, and no longer open with any byte after it
   pub whole-open : (s : List ℕ) → Whole s → Open s
   pub whole-ends : (s : List ℕ) (b : ℕ) → Whole s → ¬ Open (s ++ (b ∷ []))
 
@@ -26,7 +26,7 @@ pub record Framing : Type 1 where
   pub whole? : (s : List ℕ) → Dec (Whole s)
   pub laws : Laws Open Whole
 
--- Open and not whole: what may stand pending between two calls.
+-- Open and not whole: what may be pending between two calls.
 abbrev pub Waits : Framing → List ℕ → Type 0
 Waits F p = F .Open p × (¬ F .Whole p)
 

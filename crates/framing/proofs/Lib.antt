@@ -1,4 +1,4 @@
--- The theory of divisions, in the order in which its parts lean on one another.
+-- The theory of divisions. Each file uses only files above it.
 
 -- What a division spells and adds up to.
 pub mod Division
@@ -26,5 +26,5 @@ pub mod Events
 pub mod Resyncs
 -- Frames of a fixed length.
 pub mod Fixed
--- Patterns put together of given bytes and of any: what fills them.
+-- Which strings fill a pattern of given bytes and of places for any byte.
 pub mod Pattern

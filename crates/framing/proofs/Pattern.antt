@@ -1,5 +1,5 @@
--- Patterns that are put together of given bytes and of places for any: which strings fill them, and that every
--- beginning of a frame can be completed.
+-- Patterns of given bytes and of places for any byte: which strings fill them, and that every beginning of a frame
+-- can be completed.
 --   given h   a place for each of the bytes h
 --   any n     n places for any byte
 use mathlib.Core.Path.{_≡_, refl, ap}
@@ -32,7 +32,7 @@ fills-any zero (b ∷ d) xs t l f = absurd (omega arith)
 fills-any (suc n) [] xs t l f = absurd (omega arith)
 fills-any (suc n) (b ∷ d) xs t l f = fills-any n d xs t (omega arith) f
 
--- The other way: a string that fills the pattern begins with the given bytes, or with as many as there are places.
+-- Conversely, a string that fills the pattern begins with the given bytes, or with n bytes for n places.
 pub record After (h : List ℕ) (xs : List (Option ℕ)) (s : List ℕ) : Type 0 where
   pub rest : List ℕ
   pub spelled : s ≡ h ++ rest

@@ -21,7 +21,7 @@ module _ (F : Framing) where
       ap (λ (l : List Piece). r .closed ++ l) (closed-append (r .pending) t u)
       ∙ sym (append-assoc (r .closed) (closed F (r .pending) t) (closed F (rest F (r .pending) t) u))
 
-  -- A string that waits closes nothing, and is what is pending after itself.
+  -- A string that waits closes no piece, and all of it is pending.
   pub waits-closed : (p : List ℕ) → Waits F p → closed F [] p ≡ []
   waits-closed [] w = refl
   waits-closed (b ∷ p) w = sym (division-finished F (is-unfinished cons≢nil (w .0) (w .1)))
@@ -30,7 +30,7 @@ module _ (F : Framing) where
   waits-rest [] w = refl
   waits-rest (b ∷ p) w = sym (division-cut F (is-unfinished cons≢nil (w .0) (w .1))) ∙ append-nil (b ∷ p)
 
-  -- Where a longer string waits as well, the rest of it is added to what is pending.
+  -- If p waits, and p ++ u does too, all of p ++ u is pending.
   pub rest-on : (p u : List ℕ) → Waits F p → Waits F (p ++ u) → rest F p u ≡ p ++ u
   rest-on p u w w′ = ap (λ (q : List ℕ). rest F q u) (sym (waits-rest p w)) ∙ sym (rest-append [] p u)
       ∙ waits-rest (p ++ u) w′
@@ -39,8 +39,7 @@ module _ (F : Framing) where
   pub rest-whole : (f : List ℕ) → F .Whole f → rest F [] f ≡ []
   rest-whole f w = ap (rest F []) (sym (append-nil f)) ∙ sym (division-cut F (is-whole w is-empty))
 
-  -- A byte that does not go on with what is pending is all that is pending after it, if it may begin a frame, else
-  -- nothing is.
+  -- After a byte that does not fit, that byte alone is pending if it may begin a frame, else nothing is.
   pub starts-over : (p : List ℕ) (c : ℕ) → Waits F (c ∷ []) → ¬ F .Open (p ++ (c ∷ [])) → step F p c .pending ≡ c ∷ []
   starts-over [] c w n = absurd (n (w .0))
   starts-over (b ∷ p) c w n =

@@ -1,4 +1,4 @@
--- How often a stream can break: of n bytes at most n - 1 times, and some streams that often.
+-- How often a stream can break: n bytes have at most n - 1 broken starts, and some streams have as many.
 use mathlib.Core.Path.{_≡_, refl, ap, _∙_}
 use mathlib.Core.Logic.{_≢_}
 use mathlib.Core.List.{List, [], _∷_, cons≢nil}
@@ -16,7 +16,7 @@ filled [] ne = absurd (ne refl)
 filled (b ∷ s) ne = omega arith
 
 module _ (F : Framing) where
-  -- Of n bytes at most n - 1 starts break, and none of none.
+  -- n bytes have at most n - 1 broken starts, and none if n is 0.
   pub resynced-bound : {s : List ℕ} {ps : List Piece} → Divides F s ps → sum resynced ps ≤ length s - 1
   resynced-bound is-empty = omega arith
   resynced-bound (is-stray n d) = omega (arith, resynced-bound d)
@@ -25,7 +25,7 @@ module _ (F : Framing) where
   resynced-bound (is-whole {s} {t} w d) = omega (arith, resynced-bound d, length-append s t)
   resynced-bound (is-unfinished ne o w) = omega arith
 
-  -- A byte that begins a frame and does not go on with itself, again and again.
+  -- A byte c that may begin a frame, though c c may not, many times in a row.
   module _ (c : ℕ) (o : F .Open (c ∷ [])) (w : ¬ F .Whole (c ∷ [])) (n : ¬ F .Open (c ∷ c ∷ [])) where
     abbrev again : ℕ → List Piece
     again zero = unfinished (c ∷ []) ∷ []
@@ -39,6 +39,6 @@ module _ (F : Framing) where
     again-breaks zero = refl
     again-breaks (suc m) = omega (arith, again-breaks m)
 
-    -- Of m + 1 of them m break.
+    -- m + 1 of them have m broken starts.
     pub resynced-reached : (m : ℕ) {ps : List Piece} → Divides F (replicate (suc m) c) ps → sum resynced ps ≡ m
     resynced-reached m d = ap (sum resynced) (division-unique F d (again-divides m)) ∙ again-breaks m

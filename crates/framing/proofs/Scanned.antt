@@ -12,7 +12,7 @@ use Rattle.framing.proofs.View.{nothing-waits, Does, does-end, does-ope
 use Rattle.framing.proofs.View.{step-whole, step-on, step-over}
 
 module _ (F : Framing) where
-  -- The pieces of s after the open string p; and those of s after what a byte left.
+  -- The pieces of s after the pending string p; those of the step r, and of s after it.
   abbrev pub from : List ℕ → List ℕ → List Piece
   from p [] = leftover p
   from p (c ∷ s) = step F p c .closed ++ from (step F p c .pending) s
@@ -27,7 +27,7 @@ module _ (F : Framing) where
       ap (λ (l : List Piece). r .closed ++ l) (from-append (r .pending) s t)
       ∙ sym (append-assoc (r .closed) (closed F (r .pending) s) (from (rest F (r .pending) s) t))
 
-  -- What stands in front of more of an open string is open, and not whole.
+  -- A proper prefix of an open string is open, and not whole.
   before-more : (q : List ℕ) (d : ℕ) (t : List ℕ) → F .Open (q ++ (d ∷ t)) → Waits F q
   before-more q d t o =
       let longer : F .Open (q ++ (d ∷ [])) = F .laws .open-prefix (q ++ (d ∷ [])) t (rw append-snoc o) in
@@ -37,7 +37,7 @@ module _ (F : Framing) where
   waits-before q [] w = rw append-nil at w
   waits-before q (d ∷ t) w = before-more q d t (w .0)
 
-  -- The scanner takes in an open string.
+  -- Bytes that keep the string waiting are added to what is pending.
   pub absorb : (p t u : List ℕ) → Waits F (p ++ t) → from p (t ++ u) ≡ from (p ++ t) u
   absorb p [] u w = rw append-nil
   absorb p (c ∷ t) u w =
@@ -45,7 +45,7 @@ module _ (F : Framing) where
       ap (λ (r : Step). then r (t ++ u)) (step-on F p c (waits-before (p ++ (c ∷ [])) t w′))
       ∙ absorb (p ++ (c ∷ [])) t u w′ ∙ ap (λ (l : List ℕ). from l u) (append-snoc p c t)
 
-  -- And a frame.
+  -- A whole frame becomes a piece.
   read : (p : List ℕ) (c : ℕ) (t u : List ℕ) → F .Whole (p ++ (c ∷ t))
       → from p (c ∷ (t ++ u)) ≡ whole (p ++ (c ∷ t)) ∷ from [] u
   read p c [] u w = ap (λ (r : Step). then r u) (step-whole F p c w)
@@ -72,7 +72,7 @@ module _ (F : Framing) where
   waits-last [] ne w = absurd (ne refl)
   waits-last (b ∷ s) ne w = ap (λ (l : List ℕ). from [] l) (sym (append-nil (b ∷ s))) ∙ absorb [] (b ∷ s) [] w
 
-  -- A division is what the scanner makes.
+  -- Every division is the scanner's.
   pub scanner-complete : {s : List ℕ} {ps : List Piece} → Divides F s ps → ps ≡ from [] s
   scanner-complete is-empty = refl
   scanner-complete (is-stray {b} {t} n d) =
@@ -83,7 +83,7 @@ module _ (F : Framing) where
       ap (λ (l : List Piece). whole s ∷ l) (scanner-complete d) ∙ sym (reads s t w)
   scanner-complete (is-unfinished {s} ne o w) = sym (waits-last s ne (o, w))
 
-  -- What the scanner makes is a division.
+  -- The scanner's pieces are a division.
   last : (p : List ℕ) → Waits F p → Divides F (p ++ []) (leftover p)
   last [] w = is-empty
   last (b ∷ p) w = rw append-nil (is-unfinished cons≢nil (w .0) (w .1))

@@ -1,9 +1,9 @@
--- What one more byte does to a division: it is the division's own rule, read from left to right. What stands before the
--- byte matters only through the pending string, the unfinished end of what came before.
+-- The scanner: the rule of a division, read from left to right. What came before a byte matters only through the
+-- pending string, which is the unfinished end of it.
 --   Step         what a byte did: the pieces that it closed, the frame that it ended, what is pending now
 --   step F p c   what the byte c does after the pending string p
 --   closed F p s the pieces that the string s closes after p
---   rest F p s   what is pending after s after p
+--   rest F p s   what is pending after s, if p was pending before
 --   leftover p   a pending string at the end of a stream, as its unfinished end
 --   pieces F s   the pieces of the string s
 use mathlib.Core.List.{List, [], _∷_, _++_}
@@ -17,7 +17,7 @@ pub record Step : Type 0 where
   pub ended : Option (List ℕ)
   pub pending : List ℕ
 
--- The byte ended the frame s; made the open string s; was stray; or broke the open string s, and then did r.
+-- The byte completed the frame s; left the open string s; was stray; or broke the open string s, and then did r.
 abbrev pub ends : List ℕ → Step
 ends s = record { closed = whole s ∷ []; ended = some s; pending = [] }
 
@@ -30,7 +30,7 @@ strays c = record { closed = stray c ∷ []; ended = none; pending = [] }
 abbrev pub breaks : List ℕ → Step → Step
 breaks s r = record { closed = broken s ∷ r .closed; ended = r .ended; pending = r .pending }
 
--- The string s, longer by its last byte, is a frame, or waits for more, or else.
+-- With the byte added, the string s is a whole frame, or it waits, or the step is `else`.
 abbrev pub grown : {W O : Type 0} → Dec W → Dec O → List ℕ → Step → Step
 grown (yes w) o s else = ends s
 grown (no w) (yes o) s else = leavesOpen s
@@ -41,12 +41,12 @@ module _ (F : Framing) where
   abbrev pub start : ℕ → Step
   start c = grown (F .whole? (c ∷ [])) (F .open? (c ∷ [])) (c ∷ []) (strays c)
 
-  -- A byte that does not go on with what is pending breaks it, and is tried as a new start. Only that byte is.
+  -- A byte that does not fit breaks what is pending. Then only that byte is tried as a new start.
   abbrev pub over : List ℕ → ℕ → Step
   over [] c = strays c
   over (b ∷ p) c = breaks (b ∷ p) (start c)
 
-  -- A byte after a pending string: it ends a frame, or goes on with it, or starts over.
+  -- A byte after a pending string: it ends a frame, keeps the string open, or does not fit.
   abbrev pub step : List ℕ → ℕ → Step
   step p c = grown (F .whole? (p ++ (c ∷ []))) (F .open? (p ++ (c ∷ []))) (p ++ (c ∷ [])) (over p c)
 

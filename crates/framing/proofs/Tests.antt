@@ -1,4 +1,4 @@
--- Framings that are given by tests, and what one test and two together say.
+-- Framings that are given by tests, and laws of tests.
 --   Tests        a test for open strings and one for whole frames, with the laws of a framing
 --   framingOf X  the framing whose strings pass the tests X
 use mathlib.Core.Path.{_≡_, refl}
@@ -14,12 +14,12 @@ abbrev pub T? : (b : Bool) → Dec (T b)
 T? true = yes tt
 T? false = no (λ x. x)
 
--- What a test decides.
+-- A test that agrees with X decides it.
 abbrev pub by-test : {X : Type 0} (b : Bool) → (b ≡ true → X) → (b ≡ false → ¬ X) → Dec X
 by-test true is not = yes (is refl)
 by-test false is not = no (not refl)
 
--- Two tests pass together where the first holds and the second passes.
+-- Two tests pass together exactly if the first is true and the second passes.
 pub T-and : (a b : Bool) → T (a && b) ↔ (a ≡ true) × T b
 T-and true b = (λ h. (refl, h), λ p. p .1)
 T-and false b = (λ h. absurd h, λ p. absurd (false≢true (p .0)))

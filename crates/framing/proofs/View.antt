@@ -27,7 +27,7 @@ module _ (F : Framing) where
   pub nothing-waits : Waits F []
   nothing-waits = (F .laws .empty-open, F .laws .empty-not-whole)
 
-  -- The byte c after the open string p did r, and why.
+  -- The byte c after the pending string p does the step r, with the reason.
   pub data Does : List ℕ → ℕ → Step → Type 0 where
     does-end : {p : List ℕ} {c : ℕ} → F .Whole (p ++ (c ∷ [])) → Does p c (ends (p ++ (c ∷ [])))
     does-open : {p : List ℕ} {c : ℕ} → Waits F (p ++ (c ∷ [])) → Does p c (leavesOpen (p ++ (c ∷ [])))
@@ -50,7 +50,7 @@ module _ (F : Framing) where
   does (b ∷ p) c = does-grown (b ∷ p) c (breaks (b ∷ p) (start F c)) (F .whole? (b ∷ p ++ (c ∷ [])))
       (F .open? (b ∷ p ++ (c ∷ []))) (λ o. does-break o (does-start c))
 
-  -- Which one, where it is known what the longer string is.
+  -- Which of them, by what the longer string is.
   pub step-whole : (p : List ℕ) (c : ℕ) → F .Whole (p ++ (c ∷ [])) → step F p c ≡ ends (p ++ (c ∷ []))
   step-whole p c w = grown-whole (F .whole? (p ++ (c ∷ []))) (F .open? (p ++ (c ∷ []))) (p ++ (c ∷ [])) (over F p c) w
 
@@ -62,7 +62,7 @@ module _ (F : Framing) where
   step-over p c n = grown-over (F .whole? (p ++ (c ∷ []))) (F .open? (p ++ (c ∷ []))) (p ++ (c ∷ [])) (over F p c)
       (λ w. n (F .laws .whole-open _ w)) n
 
-  -- What waits after a byte is open and not whole, and no byte is lost.
+  -- What is pending after a byte is open and not whole, and no byte is lost.
   does-waits : {p : List ℕ} {c : ℕ} {r : Step} → Does p c r → Waits F (r .pending)
   does-waits (does-end x) = nothing-waits
   does-waits (does-open x) = x

@@ -1,4 +1,4 @@
--- Three targets and their frame: what is written for them is read as them, and what is read is written again.
+-- Three targets and their frame: what is written is read back, and a frame as the writer writes it is written back.
 use mathlib.Core.Path.{_≡_, refl, sym, ap, _∙_}
 use mathlib.Core.List.{List, [], _∷_, _++_}
 use mathlib.Core.Bool.{Bool, true, false, _&&_, and-eq-true-iff}
@@ -22,7 +22,7 @@ use Rattle.ld2450.proofs.TargetRound.{Eight, target-eight, target-read,
 use Rattle.ld2450.proofs.TargetRound.{target-writable}
 use Rattle.ld2450.proofs.Typed.{TypedTarget, TypedTargets}
 
--- Three strings of eight bytes, one after another, are taken apart again; and 24 bytes are such.
+-- Three strings of eight bytes, joined, can be taken apart again; any 24 bytes are three such strings.
 pub record Parts (d a b c : List ℕ) : Type 0 where
   pub first : take 8 d ≡ a
   pub second : take 8 (drop 8 d) ≡ b
@@ -99,7 +99,7 @@ module _ (a b c : Target) where
           read = parsed-frame (framed d) (framed-tested d (targets-length three)) ∙ rw (held, three-read);
         }
 
--- What is read.
+-- A string s that is read as the targets ts.
 module _ (s : List ℕ) (ts : List Target) where
   pub record Read : Type 0 where
     pub frame : isFrame s ≡ true
@@ -126,7 +126,7 @@ module _ (s : List ℕ) (ts : List Target) where
           target-writable (take 8 (drop 16 d)),
         )
 
-    -- The parts of its target bytes, and the frame that is written again if they are plain.
+    -- The eight bytes of each target; and the frame is written back if they are as the writer writes them.
     held-eight : Bytes s → (n : ℕ) → n + 8 ≤ 24 → Eight (take 8 (drop n (heldIn s)))
     held-eight h n l =
         let size = frame-length s (read-sound r .frame) in
@@ -150,7 +150,7 @@ module _ (s : List ℕ) (ts : List Target) where
           frame-held s f,
         ) (sym (f .spelled))
 
--- Whatever the reader answers may be written.
+-- The targets of any answer of the reader can be written.
 answer-by : (s : List ℕ) (p : Bool) → isFrame s ≡ p → allWritable (parsedTargets s .targets) ≡ true
 unfolding writable
 answer-by s true e =

@@ -1,4 +1,4 @@
--- What the writer tests of three targets, and the frame that it puts part after part.
+-- The writer's tests of three targets, and the frame that it puts part by part.
 use mathlib.Core.Path.{_≡_, refl, sym, ap, _∙_}
 use mathlib.Core.List.{List, [], _∷_, _++_, append-assoc, append-nil}
 use mathlib.Core.Bool.{Bool, true, false, _&&_}
@@ -36,7 +36,7 @@ module _ (ts : List Target) (n : length ts ≡ 3) where
       ∙ ap (λ b. writable (getD ts 0 absent) && (writable (getD ts 1 absent) && b))
       (and-true (writable (getD ts 2 absent)))
 
-  -- The first test that fails decides, or the last one does.
+  -- The first test that fails decides, else the last one.
   pub by-first : {r : Bool} → r ≡ writable (getD ts 0 absent) → r ≡ false → r ≡ allWritable ts
   by-first e z = rw (all-tested, ← e, z)
 
@@ -57,7 +57,7 @@ module _ (ts : List Target) (n : length ts ≡ 3) where
   pub frame-size : length (targetsFrame ts) ≡ 30
   frame-size = framed-length (targetsBytes ts) (omega (arith, targets-length ts))
 
--- Header, three targets, tail, each put where the last ended.
+-- Header, three targets, tail, each put where the one before ended.
 put-parts : (out a b c b₁ b₂ b₃ b₄ b₅ : List ℕ) → 30 ≤ length out → length a ≡ 8 → length b ≡ 8 → length c ≡ 8
     → b₁ ≡ putIn out 0 header → b₂ ≡ putIn b₁ 4 a → b₃ ≡ putIn b₂ 12 b → b₄ ≡ putIn b₃ 20 c → b₅ ≡ putIn b₄ 28 tail
     → b₅ ≡ written out (framed (a ++ (b ++ (c ++ []))))

@@ -1,4 +1,4 @@
--- Frames: the test says what they are, their target bytes stand where they are read, and 1 is given to all others.
+-- Frames: the test decides what is one, the reader finds its target bytes, and gives 1 to all other bytes.
 use mathlib.Core.Path.{_≡_, refl, sym, ap, _∙_}
 use mathlib.Core.Logic.{_⊎_, inl, inr}
 use mathlib.Core.List.{List, _++_}
@@ -24,7 +24,7 @@ use Rattle.ld2450.specs.Frame.{returnedTargets, ReadCauses, OneAnswer}
 use Rattle.ld2450.specs.declared.targets.Target.{Target}
 use Rattle.ld2450.specs.declared.TargetsResult.{TargetsResult}
 
--- What stands where in a frame around 24 bytes.
+-- What is where in the frame around 24 target bytes.
 module _ (d : List ℕ) (n : length d ≡ 24) where
   pub framed-held : heldIn (framed d) ≡ d
   framed-held = take-at d tail 24 n
@@ -40,7 +40,7 @@ module _ (d : List ℕ) (n : length d ≡ 24) where
         same-complete (take 4 (framed d)) header refl,
       ) (same-complete (drop 28 (framed d)) tail (drop-at d tail 24 n))
 
--- The frame of bytes is one of bytes.
+-- The frame around bytes is made of bytes.
 pub framed-bytes : (d : List ℕ) → Bytes d → Bytes (framed d)
 framed-bytes d h =
     bytes-append header (d ++ tail) (omega arith, (omega arith, (omega arith, (omega arith, tt))))
@@ -56,7 +56,7 @@ module _ (s : List ℕ) where
   pub held-length : length s ≡ 30 → length (heldIn s) ≡ 24
   held-length n = simp (length-take, length-drop) (omega arith)
 
-  -- The test says that the string is a frame, and a frame passes it.
+  -- A string that passes the test is a frame, and a frame passes it.
   pub frame-sound : isFrame s ≡ true → IsFrame s
   unfolding isFrame
   frame-sound e =
@@ -120,7 +120,7 @@ module _ (s : List ℕ) where
   read-causes true e = frame-causes e
   read-causes false e = other-causes e
 
-  -- They leave no choice.
+  -- The causes leave no choice.
   refused-value : (r : Returned (List Target)) → r .number ≡ 1
       → (r .number ≡ 0) ⊎ (r ≡ record { number = 1; needed = 0; value = noTargets }) → r .value ≡ noTargets
   refused-value r n (inl z) = absurd (omega arith)
@@ -137,6 +137,6 @@ module _ (s : List ℕ) where
   pub one-answer : OneAnswer s
   one-answer = answers-agree (isFrame s) refl
 
-  -- So an answer that is the reader's has its causes.
+  -- So the reader's answer has its causes.
   pub read-shown : (r : TargetsResult) → r ≡ parsedTargets s → ReadCauses s (returnedTargets r)
   read-shown r e = rw e (read-causes (isFrame s) refl)

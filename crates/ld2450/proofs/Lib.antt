@@ -1,21 +1,21 @@
 -- Laws about the definitions, which the proofs of this crate cite.
--- What a two-byte number says, and what is written for it, come back from each other.
+-- A two-byte number and the signed number that it says.
 pub mod Signs
--- Signed numbers, as the machine has them.
+-- Signed numbers, as the machine holds them.
 pub mod Numbers
--- A target read from its bytes, and its bytes made.
+-- A target read from its eight bytes, and its bytes laid out.
 pub mod TargetBytes
 -- Frames, and what the reader gives for them.
 pub mod Frames
--- The numbers that the document prints.
+-- The examples of request 6.
 pub mod Printed
 -- What the types of a target's fields say.
 pub mod Typed
--- A target and its bytes come back from each other.
+-- A target is read back from its bytes, and these are written back.
 pub mod TargetRound
--- Three targets and their frame come back from each other.
+-- The same for three targets and their frame.
 pub mod FrameRound
--- The tests of the writer, and its puts.
+-- The writer's tests, and the frame that it puts part by part.
 pub mod FrameWritten
--- The writer's test is request 6's two causes.
+-- The writer's test fails exactly in request 6's two causes.
 pub mod Unsayable

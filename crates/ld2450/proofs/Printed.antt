@@ -1,5 +1,4 @@
--- The numbers that document 02 prints are what the definitions say, and the frame that is spelled is read and written
--- so.
+-- The examples of request 6, numbers and frames, are what the definitions give.
 use mathlib.Core.Path.{refl}
 use Rattle.wire.specs.Equal.{sameBytes}
 use Rattle.ld2450.specs.Signed.{signedOf}

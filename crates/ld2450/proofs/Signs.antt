@@ -1,4 +1,4 @@
--- What a two-byte number says, and what is written for it: each comes back from the other.
+-- A two-byte number and the signed number that it says: each gives the other again, except that 0 is written 8000.
 use mathlib.Core.Path.{_≡_, refl, ap, _∙_}
 use mathlib.Core.Bool.{Bool, true, false, cond}
 use Prim.Native.Nat.{ℕ, zero, suc, _+_, _%_, _≤_, _<_}
@@ -9,7 +9,7 @@ use lib.Signed.{mag}
 use borrow.Author.Tests.{leb-true, leb-false, le-leb, lt-leb}
 use Rattle.ld2450.specs.Signed.{signedOf, sayable, rawOf}
 
--- By the top bit.
+-- What n says, by its top bit.
 pub said-plus : (n : ℕ) → 32768 ≤ n → signedOf n ≡ pos (n % 32768)
 unfolding signedOf
 said-plus n h = rw (le-leb 32768 n h)
@@ -18,7 +18,7 @@ pub said-minus : (n : ℕ) → n < 32768 → signedOf n ≡ negℤ (pos (n % 327
 unfolding signedOf
 said-minus n h = rw (lt-leb 32768 n h)
 
--- What is said may be written.
+-- Every number that two bytes say can be written.
 negated-sayable : (n : ℕ) → n < 32768 → sayable (negℤ (pos n)) ≡ true
 negated-sayable zero h = refl
 negated-sayable (suc n) h = le-leb (suc n) 32767 (omega arith)
@@ -31,7 +31,7 @@ pub said-sayable : (n : ℕ) → sayable (signedOf n) ≡ true
 unfolding signedOf
 said-sayable n = by-sign-sayable (leb 32768 n) (n % 32768) (omega arith)
 
--- What is written for a number of sixteen bits has two bytes, not both zero, and says the number.
+-- The raw number of a sixteen-bit number other than -32,768 has two bytes, is not 0, and says the number.
 pub record Raw (z : ℤ) : Type 0 where
   pub wide : rawOf z < 65536
   pub some : rawOf z ≡ 0 → ⊥
@@ -54,7 +54,7 @@ raw (negsuc n) h s =
       again = said-minus (suc n) (omega arith) ∙ ap (λ m. negℤ (pos m)) low;
     }
 
--- So a number other than 0 is written for what it says.
+-- A two-byte number other than 0 is the raw number of what it says.
 raw-negated : (n : ℕ) → (n ≡ 0 → ⊥) → rawOf (negℤ (pos n)) ≡ n
 raw-negated zero h = absurd (h refl)
 raw-negated (suc n) h = refl

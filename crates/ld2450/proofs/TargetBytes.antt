@@ -1,4 +1,4 @@
--- A target read from its eight bytes, and its bytes made.
+-- A target read from its eight bytes, and its bytes laid out.
 use mathlib.Core.Path.{_≡_}
 use mathlib.Core.List.{List, [], _∷_}
 use mathlib.Core.Bool.{true, false, _&&_, and-eq-true-iff}
@@ -25,7 +25,7 @@ module _ (b : List ℕ) where
   unfolding targetOf
   target-absent e = rw e
 
-  -- The fields, as the machine has them.
+  -- A present target, by its fields.
   pub target-present : sameBytes b (replicate 8 0) ≡ false → {x y s : ℤ} {r : ℕ} → x ≡ signedOf (fieldAt b 0)
       → y ≡ signedOf (fieldAt b 2) → s ≡ signedOf (fieldAt b 4) → r ≡ fieldAt b 6
       → _≡_ {A = Target}
@@ -40,7 +40,7 @@ module _ (b : List ℕ) where
   unfolding targetOf
   target-present e hx hy hs hr = rw (e, said-back _ hx, said-back _ hy, said-back _ hs, hr)
 
--- The fields of a present target that may be written are said by two bytes each.
+-- Two bytes can say each signed field of a present target that can be written.
 pub record Said (t : Target) : Type 0 where
   pub x : sayable (t .x) ≡ true
   pub y : sayable (t .y) ≡ true

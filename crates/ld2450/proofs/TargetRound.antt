@@ -1,4 +1,4 @@
--- A target and its eight bytes: what is written for it is read as it, and what is read is written again.
+-- A target and its eight bytes: what is written is read back, and bytes as the writer writes them are written back.
 use mathlib.Core.Path.{_≡_, refl, sym, ap, _∙_}
 use mathlib.Core.Logic.{_≢_, inl, inr}
 use mathlib.Core.List.{List, [], _∷_, _++_}
@@ -23,7 +23,7 @@ use Rattle.ld2450.proofs.Signs.{Raw, raw, said-sayable, said-raw}
 use Rattle.ld2450.proofs.TargetBytes.{writable-said, target-absent}
 use Rattle.ld2450.proofs.Typed.{TypedTarget}
 
--- Eight bytes are no target, or they are not all zero.
+-- Eight bytes are read as no target if all are zero, else as a present one.
 module _ (b : List ℕ) where
   none-read : b ≡ replicate 8 0 → targetOf b ≡ absent
   none-read e = sym (target-absent b (same-complete b (replicate 8 0) e))
@@ -32,11 +32,11 @@ module _ (b : List ℕ) where
   unfolding targetOf
   some-read h = rw (same-differs b (replicate 8 0) h)
 
-  -- A field that is not 0 shows that they are some.
+  -- If the first field is not 0, they are not all zero.
   field-some : fieldAt b 0 ≢ 0 → b ≡ replicate 8 0 → ⊥
   field-some h e = h (ap (λ s. fieldAt s 0) e)
 
--- A target is told by its fields.
+-- A target is determined by its fields.
 target-is : (t : Target) {p : Bool} {x y s : ℤ} {r : ℕ} → p ≡ t .present → x ≡ t .x → y ≡ t .y → s ≡ t .speed
     → r ≡ t .resolution
     → _≡_ {A = Target} (record { present = p; x = x; y = y; speed = s; resolution = r }) t
@@ -46,7 +46,7 @@ zero-is : (z : ℤ) → isZero z ≡ true → pos 0 ≡ z
 zero-is (pos n) e = ap pos (sym (eqb-true n 0 e))
 zero-is (negsuc n) e = let h : false ≡ true = e in let z : _≡_ {A = ℕ} 0 1 = cc in absurd (omega arith)
 
--- An absent target that may be written has every field 0.
+-- An absent target that can be written has every field 0.
 module _ (t : Target) (gone : t .present ≡ false) where
   absent-is : writable t ≡ true → absent ≡ t
   unfolding writable
@@ -62,7 +62,7 @@ module _ (t : Target) (gone : t .present ≡ false) where
   unfolding targetBytes
   absent-bytes = rw gone
 
--- The bytes of a present target that may be written.
+-- The bytes of a present target that can be written.
 module _ (t : Target) (there : t .present ≡ true) where
   present-bytes : targetBytes t ≡ presentBytes t
   unfolding targetBytes
@@ -93,7 +93,7 @@ module _ (t : Target) (there : t .present ≡ true) where
         (ap signedOf (little-two (rawOf (t .speed)) (raw-speed .wide)) ∙ raw-speed .again)
         (little-two (t .resolution) (h .resolution))
 
--- A string of eight bytes: the bytes of a target are one.
+-- A string of eight bytes, as the bytes of a target are.
 pub record Eight (b : List ℕ) : Type 0 where
   pub size : length b ≡ 8
   pub bytes : Bytes b
@@ -117,7 +117,7 @@ module _ (t : Target) where
   pub target-eight : Eight (targetBytes t)
   target-eight = eight-by (t .present) refl
 
-  -- What may be written is read as it, and is plain.
+  -- A target that can be written is read back from its bytes, and these are `AsWritten`.
   module _ (h : TypedTarget t) (e : writable t ≡ true) where
     read-by : (p : Bool) → t .present ≡ p → targetOf (targetBytes t) ≡ t
     read-by true there =
@@ -135,7 +135,7 @@ module _ (t : Target) where
     pub target-plain : AsWritten (targetBytes t)
     target-plain = plain-by (t .present) refl
 
--- A field of eight bytes has two of them.
+-- A field has two bytes, so it is below 65,536.
 little-wide : (s : List ℕ) → Bytes s → length s ≡ 2 → little s < 65536
 little-wide [] h n = omega arith
 little-wide (a ∷ []) h n = omega arith
@@ -148,7 +148,7 @@ module _ (b : List ℕ) (h : Eight b) where
       little-wide (take 2 (drop i b)) (bytes-take 2 (drop i b) (bytes-drop i b (h .bytes)))
       (simp (length-take, length-drop) (omega arith))
 
-  -- AsWritten bytes are written again for the target that they are read as.
+  -- `AsWritten` bytes are written back for the target that they are read as.
   present-again : (fieldAt b 0 ≢ 0) × (fieldAt b 2 ≢ 0) × (fieldAt b 4 ≢ 0) → targetBytes (presentOf b) ≡ b
   unfolding targetBytes
   present-again k =
@@ -170,7 +170,7 @@ module _ (b : List ℕ) (h : Eight b) where
   target-again (inl e) = rw (none-read b e) (sym e)
   target-again (inr k) = rw (some-read b (field-some b (k .0))) (present-again k)
 
--- What is read may be written.
+-- Whatever is read can be written.
 module _ (b : List ℕ) where
   writable-by : (p : Bool) → sameBytes b (replicate 8 0) ≡ p → writable (targetOf b) ≡ true
   unfolding targetOf writable

@@ -1,5 +1,4 @@
--- What the types of a target's fields say, and of an array of three targets: from what owning a parameter of the type
--- tells.
+-- Bounds on a target's fields, and the length of an array of three targets, from owning a parameter of the type.
 use mathlib.Core.Path.{_≡_}
 use mathlib.Core.List.{List, [], _∷_}
 use Prim.Native.Nat.{_<_}

@@ -1,4 +1,4 @@
--- The writer's test of targets fails exactly in request 6's two causes: so does what is said of its 6.
+-- The writer's test of targets fails exactly in request 6's two causes; so these are the causes of its 6.
 use mathlib.Core.Path.{_≡_, refl, sym, ap, _∙_}
 use mathlib.Core.Logic.{_≢_, _↔_, _⊎_, inl, inr, ⊎-elim}
 use mathlib.Core.List.{List, [], _∷_}
@@ -25,7 +25,7 @@ use Rattle.ld2450.specs.declared.targets.Target.{Target}
 use Rattle.ld2450.proofs.Printed.{written-example}
 use Rattle.ld2450.proofs.Typed.{TypedTarget, TypedTargets}
 
--- Of two tests one fails.
+-- A conjunction fails only if one of its tests does, and always if the second does.
 either : (a b : Bool) → a && b ≡ false → (a ≡ false) ⊎ (b ≡ false)
 either true b e = inr e
 either false b e = inl refl
@@ -34,7 +34,7 @@ second : (a b : Bool) → b ≡ false → a && b ≡ false
 second true b e = e
 second false b e = refl
 
--- Of sixteen bits -32,768 alone is not said.
+-- -32,768 is the only sixteen-bit number that two bytes cannot say.
 lowest : (z : ℤ) → mag z < 32768 → sayable z ≡ false → z ≡ negℤ (pos 32768)
 lowest (pos n) h e = absurd (false≢true (sym e))
 lowest (negsuc n) h e =
@@ -87,7 +87,7 @@ module _ (t : Target) where
       rw q (second (isZero (t .x)) _
       (second (isZero (t .y)) _ (second (isZero (t .speed)) _ (ne-eqb (t .resolution) 0 e))))
 
--- So of targets: one of them has a cause.
+-- So of several targets: the test fails exactly if one of them has a cause.
 some-caused : (ts : List Target) → Every TypedTarget ts → allWritable ts ≡ false → SomeUnsayable ts
 some-caused [] h e = absurd (false≢true (sym e))
 some-caused (t ∷ ts) h e =
@@ -101,7 +101,7 @@ some-unwritable ts (later t us h) = second (writable t) (allWritable us) (some-u
 pub unsayable : (ts : List Target) → Every TypedTarget ts → allWritable ts ≡ false ↔ SomeUnsayable ts
 unsayable ts h = (some-caused ts h, some-unwritable ts)
 
--- The causes of a writer's answer, said in other words.
+-- A cause of a writer's answer can be replaced by an equivalent one.
 reworded : {k n : ℕ} {A B : Type 0} {f : List ℕ} {r : WriteResult} → A ↔ B → WriteCauses k A f n r
     → WriteCauses k B f n r
 reworded h w = record {

@@ -1,5 +1,4 @@
--- The decoding and the counting of the LD2450's stream, as the theory of the stream takes them. The laws stand here
--- since the records hold them.
+-- The decoding and the counting of the LD2450's stream, with the laws that the crate `engine` asks of them.
 --   decoding   whole frames, the answer that each gives, and "no frame"
 --   counting   what each piece adds to each counter
 use mathlib.Core.Path.{_≡_, refl}

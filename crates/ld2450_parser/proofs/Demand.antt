@@ -1,4 +1,4 @@
--- Demand 3 from any parser, and what follows from it: the theory of the stream, for this engine.
+-- Demand 3 from any parser, and what follows from it: the laws of the crate `engine`, for this parser.
 use mathlib.Core.Path.{_≡_, refl, sym, ap, _∙_}
 use mathlib.Core.List.{[]}
 use Prim.Native.Nat.{ℕ, _≤_, _<_}
@@ -23,7 +23,7 @@ stands x = record {
   inside = λ n. rw (or-reset-same (x .at) (omega arith));
 }
 
--- The theory of the stream, for this engine.
+-- From any parser, with its pending bytes.
 pub from-any : (x : Parser) → Valid x → FromAny x
 from-any x v =
     let c = claimed link decoding counting engine lawful x v in
@@ -37,7 +37,7 @@ from-any x v =
       received = receives (pendingBy x) x v (c .demand);
     }
 
--- A parser just reset has nothing pending, and a fresh one is as if it were.
+-- Nothing is pending in a parser just reset, nor in a fresh one.
 reset-from : (p : Parser) → Valid (resetOf p) → FromNothing link decoding counting engine (resetOf p)
 reset-from p v = from-nothing link decoding counting engine lawful (resetOf p) v (reset-nothing p)
 
@@ -57,7 +57,7 @@ fresh-claims =
     let c = reset-from fresh fresh-valid in
     (c .demand, (c .accounted dropped (λ q. refl) refl, (c .determined, receives [] fresh fresh-valid (c .demand))))
 
--- A parser out of range is fed as what a reset leaves of it.
+-- A parser out of range is fed as if it were reset first.
 or-reset-as : (n : ℕ) → 29 < n → orReset n ≡ orReset 0
 or-reset-as n o = or-reset-out n o ∙ sym (or-reset-same 0 (omega arith))
 

@@ -27,7 +27,7 @@ reset-nothing p = rw (or-reset-same 0 (omega arith))
 still-valid : (p : Parser) → Valid p → Valid (still p)
 still-valid p v = record { room = v .room; capped = v .capped }
 
--- What settling the parser first changes: nothing that a feed sees.
+-- Resetting a place out of range first changes nothing that a feed sees.
 still-feed : (p : Parser) (b : ℕ) → engine .feed (still p) b ≡ engine .feed p b
 unfolding feedOf
 still-feed p b = rw (or-reset-twice (p .at))

@@ -1,6 +1,6 @@
 -- A byte does to a place in range, the counters and the buffer what the scanner's step does.
 --   Capped    no counter is past its max
---   Follows   what a byte did, from the counters st, held against what the scanner did
+--   Follows   what a byte did, from the counters st, is what the scanner did
 use mathlib.Core.Path.{_≡_, refl, sym, ap, _∙_}
 use mathlib.Core.List.{List, [], _∷_, _++_}
 use mathlib.Core.Bool.{Bool, true, false}
@@ -39,7 +39,7 @@ pub record Follows (st : Stats) (s : Stepped) (d : List ℕ) (r : Scanner.Step) 
   pub answer : answerIf (s .ended) d ≡ answerAt decoding (r .ended)
   pub counter : (k : Counter) → counterIn k (s .stats) ≡ min (counterIn k st + total counting k (r .closed)) counterMax
 
--- What each way of going on leaves.
+-- The frame goes on, or ends, or a byte is stray: each as in the scanner.
 module _ (st : Stats) (cap : Capped st) (d : List ℕ) where
   on-follows : (n : ℕ) (p : List ℕ) → n ≤ 29 → take n (framed d) ≡ p
       → Follows st (continued n st) d (Scanner.leavesOpen p)
@@ -89,7 +89,7 @@ module _ (st : Stats) (cap : Capped st) (d : List ℕ) where
             (on-follows 1 (b ∷ []) (omega arith) (ap (λ c. c ∷ []) z))
         go false e = rw (e, step-over link [] b (first-not-open b (eqb-false b 0xAA e))) (stray-follows b)
 
--- A frame in progress that is given up: its bytes are dropped, before what the next byte does.
+-- A frame that breaks: its bytes are counted as dropped before the offending byte is tried.
 module _ (st : Stats) (cap : Capped st) (m : ℕ) (p : List ℕ) (l : length p ≡ suc m) where
   abandoned-counter : (k : Counter) → counterIn k (abandoned st (suc m))
       ≡ min (counterIn k st + adds k (broken p)) counterMax

@@ -1,5 +1,5 @@
--- The framing of the LD2450's stream: the open strings and whole frames of the words, which tests decide.
---   pattern   what stands at each place of a frame: a given byte, or any
+-- The framing of the LD2450's stream: its open strings and whole frames, which tests decide.
+--   pattern   what is due at each place of a frame: a given byte, or any
 --   link      the framing, with its laws
 use mathlib.Core.Path.{_≡_, refl, sym, ap, _∙_}
 use mathlib.Core.List.{List, [], _∷_, _++_, append-nil, append-assoc}
@@ -21,7 +21,7 @@ use Rattle.ld2450_parser.specs.Stream.{Open, Whole}
 abbrev pattern : List (Option ℕ)
 pattern = given header ++ (any 24 ++ given tail)
 
--- The tests say what the words do.
+-- The tests decide `Open` and `Whole`.
 framed-fills : (d : List ℕ) → length d ≡ 24 → T (fills pattern (framed d))
 framed-fills d l =
     fills-given header (any 24 ++ given tail) (d ++ tail) (fills-any 24 d (given tail) tail l
@@ -53,7 +53,7 @@ begins-open s h =
 pub whole-fills : (s : List ℕ) → Whole s → T (fills pattern s)
 whole-fills s w = rw (w .spelled) (framed-fills (w .held) (w .all-there))
 
--- How long they are.
+-- Lengths, and the other laws of a framing.
 pub whole-length : (s : List ℕ) → Whole s → length s ≡ 30
 whole-length s w = ap length (w .spelled) ∙ framed-length (w .held) (w .all-there)
 
@@ -98,7 +98,7 @@ link = record {
 pub is-frame : (d : List ℕ) → length d ≡ 24 → IsFrame (framed d)
 is-frame d l = record { held = d; all-there = l; spelled = refl }
 
--- As many bytes of a frame as may be there are open and not whole.
+-- The first n bytes of a frame, at most 29, are open and not whole.
 pub waits : (n : ℕ) (d : List ℕ) → length d ≡ 24 → n ≤ 29 → Waits link (take n (framed d))
 waits n d l u =
     let p = take n (framed d) in

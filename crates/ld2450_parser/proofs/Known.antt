@@ -1,5 +1,5 @@
--- What a parser's type says of it: its buffer has 24 bytes and no counter is past its max. So demand 3 can be claimed
--- of it, and of what a reset leaves of it. Assumes nothing.
+-- What a parser's type says of it: its buffer has 24 bytes and no counter is past its max. So demand 3 holds
+-- from it, and from what a reset leaves of it. Assumes nothing.
 use native.Mathlib.Omega.{arith}
 use mathlib.Core.List.{[]}
 use Prim.Native.Nat.{_≤_}

@@ -1,5 +1,5 @@
 -- The parser as one that can be lent (LentType.antt of the crate `engine`).
---   parser-type   its buffer has 24 bytes, its place is how many bytes of a frame are there
+--   parser-type   its buffer has 24 bytes, its place is the number of pending bytes
 -- Assumes nothing.
 use mathlib.Core.Path.{refl}
 use Rattle.engine.proofs.PlainField.{declared, usize}

@@ -1,5 +1,5 @@
 -- A byte fed does what the scanner's step does: the laws of an engine at one byte.
---   Valid p   what a parser's type says of it: the buffer holds the target bytes, and no counter is past its max
+--   Valid p   what a parser's type says of it: the buffer has 24 bytes, and no counter is past its max
 use mathlib.Core.Path.{_≡_, _∙_}
 use Prim.Native.Nat.{ℕ, _+_, _≤_, min}
 use native.Mathlib.Omega.{arith}

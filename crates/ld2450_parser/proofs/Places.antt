@@ -1,6 +1,5 @@
--- What a byte does at each place of a frame of which n bytes are there, the target bytes in d: it goes on with the
--- frame, ends it, or breaks it.
---   Turn   which of the three, with what the step and the buffer are then, and the string that the byte makes
+-- What a byte does after n bytes of a frame, its target bytes in d: it goes on with the frame, ends it, or breaks it.
+--   Turn   which of the three, with the step, the buffer and the string after the byte
 use mathlib.Core.Path.{_≡_, refl, sym, ap, _∙_}
 use mathlib.Core.Logic.{_⊎_, inl, inr, ⊎-elim}
 use mathlib.Core.List.{List, [], _∷_, _++_, append-assoc}
@@ -52,7 +51,7 @@ framed-due n d l u (inr h) =
     (ap (λ i. getD (framed d) i 0) place ∙ getD-append-add header (d ++ tail) (length d + (n - 28)) 0
     ∙ getD-append-add d tail (n - 28) 0)
 
--- The longer string is the beginning of a frame, with the byte stored where that is due.
+-- A byte that fits makes a longer beginning of a frame; among the targets it is stored.
 pub stored-length : (n : ℕ) (d : List ℕ) (b : ℕ) → length (stored n d b) ≡ length d
 unfolding stored
 stored-length n d b = ⊎-elim
@@ -76,7 +75,7 @@ module _ (n : ℕ) (u : n ≤ 29) (d : List ℕ) (l : length d ≡ 24) (b : ℕ)
   longer-outside o e = take-suc (framed d) n 0 (omega (arith, framed-length d l))
       ∙ ap (λ c. take n (framed d) ++ (c ∷ [])) (framed-due n d l u o ∙ sym e)
 
-  -- Another byte than the one that is due makes no beginning of a frame.
+  -- A byte other than the one due makes no beginning of a frame.
   pub not-open : Outside n → ¬ (b ≡ dueAt n) → ¬ Open (take n (framed d) ++ (b ∷ []))
   not-open o ne x =
       let p = take n (framed d) in
@@ -125,7 +124,7 @@ module _ (n : ℕ) (u : n ≤ 29) (st : Stats) (d : List ℕ) (l : length d ≡ 
   pub turn : Turn
   turn = ⊎-elim turn-inside (λ o. turn-by o (eqb b (dueAt n)) refl) (inside? n)
 
--- So a byte leaves a place in range.
+-- So the place stays in range after a byte.
 started-range : (st : Stats) (b : ℕ) → started st b .at ≤ 29
 unfolding started
 started-range st b = go (eqb b 0xAA)

@@ -1,4 +1,4 @@
--- A place, reset where that is due.
+-- A place, reset if it is out of range.
 use mathlib.Core.Path.{_≡_, refl}
 use mathlib.Core.Bool.{Bool, true, false, cond}
 use Prim.Native.Nat.{ℕ, _≤_, _<_}

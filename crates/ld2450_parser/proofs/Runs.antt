@@ -1,6 +1,6 @@
--- The run of a slice, from any of its bytes on: the loop's invariant, and what each of its ways out comes to.
---   later i r   what r is where i bytes were taken before
---   Left        after i of the bytes, what is left of them comes to what all of them come to
+-- The run of a slice, from any of its bytes on: the loop's invariant, and the outcome at each of its exits.
+--   later i r   the outcome r, if i bytes were taken before
+--   Left        after i of the bytes, the run of the rest has the outcome `all`, that of all the bytes
 use mathlib.Core.Path.{_≡_, ap, _∙_}
 use mathlib.Core.List.{List, [], _∷_}
 use mathlib.Core.Bool.{true, false}

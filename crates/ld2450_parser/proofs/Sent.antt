@@ -29,7 +29,7 @@ wholes ds = map (λ (d : List ℕ). whole (framed d)) ds
 abbrev targetsIn : List ℕ → MaybeTargets
 targetsIn d = record { there = true; targets = threeOf d }
 
--- Frames back to back divide into themselves, and that adds up to their number.
+-- Frames back to back are divided into these frames, each delivered and counted; no byte is dropped.
 wholes-divide : (ds : List (List ℕ)) → Every Held ds → Division Open Whole (backToBack ds) (wholes ds)
 wholes-divide [] h = is-empty
 wholes-divide (d ∷ ds) h = is-whole (is-frame d (h .0)) (wholes-divide ds (h .1))
@@ -50,7 +50,7 @@ wholes-lost : (ds : List (List ℕ)) → sum (adds dropped) (wholes ds) ≡ 0
 wholes-lost [] = refl
 wholes-lost (d ∷ ds) = omega (arith, wholes-lost ds)
 
--- The same over stretches, each of which is divided.
+-- The same over several stretches.
 module _ (divide : (t : List ℕ) → Divided Open Whole t) where
   pieces-of : (ds : List (List ℕ)) → Every Held ds → divide (backToBack ds) .pieces ≡ wholes ds
   pieces-of ds h = sym (divide (backToBack ds) .only (wholes ds) (wholes-divide ds h))

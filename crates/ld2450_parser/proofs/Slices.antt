@@ -17,7 +17,7 @@ use Rattle.ld2450_parser.proofs.Decoding.{decoding}
 use Rattle.ld2450_parser.proofs.Ranges.{or-reset-same}
 use Rattle.ld2450_parser.proofs.OneByte.{Valid, fed-range, fed-answer, fed-valid}
 
--- What a slice call gives back, as the theory of the stream has it.
+-- What a slice call gives back, as the crate `engine` has it.
 abbrev pub sliceAs : FedSlice → Sliced Parser MaybeTargets
 sliceAs r = record { state = r .parser; told = r .answer .count; answer = r .answer .frame }
 
@@ -29,7 +29,7 @@ stop-as : (o : Option (List ℕ)) (p : Parser) (a : MaybeTargets) (rest : FedSli
 stop-as none p a rest e = rw e
 stop-as (some f) p a rest e = rw e
 
--- In range a byte fed is the step.
+-- In range, feeding a byte is the step.
 fed-step : (p : Parser) (b : ℕ) → p .at ≤ 29 → stepped p b ≡ feedOf p b
 unfolding feedOf
 fed-step p b u = rw (or-reset-same (p .at) u)

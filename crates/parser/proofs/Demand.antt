@@ -28,7 +28,7 @@ use Rattle.parser.proofs.Engines.{lawful, hunting-pending}
 pub small : linkLimit < 65536
 small = omega arith
 
--- What is left of a scan, reset where that is due, says what the parser stands for.
+-- The pending bytes of a parser: none if a field is out of range, else those of its scan.
 hunting-nothing : (buf : List ℕ) → pendingOf hunting buf ≡ []
 unfolding pendingOf
 hunting-nothing buf = refl
@@ -60,7 +60,7 @@ from-any x v =
       regains = regains linkLimit (omega arith) (engine linkLimit) p x again;
     }
 
--- A parser just reset has nothing pending, and a fresh one is as if it were.
+-- A parser just reset has nothing pending, and a fresh parser is the same as one just reset.
 reset-from : (p : Parser) → Valid linkLimit (resetOf p)
     → FromNothing (link linkLimit) decoding counting (engine linkLimit) (resetOf p)
 reset-from p v = from-nothing (link linkLimit) decoding counting (engine linkLimit) (lawful linkLimit small) (resetOf p)
@@ -80,7 +80,7 @@ fresh-claims =
     let c = reset-from fresh fresh-valid in
     (c .demand, (c .accounted dropped (λ q. refl) refl, c .determined))
 
--- A parser out of range is fed as what a reset leaves of it.
+-- A parser out of range is fed like the parser that a reset leaves.
 hunting-formed : wellFormed linkLimit hunting ≡ true
 unfolding wellFormed
 hunting-formed = refl

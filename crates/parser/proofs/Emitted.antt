@@ -1,4 +1,4 @@
--- What is emitted where a frame ended, and where none did: the answer that the frame gives, and the counters.
+-- What is emitted if a frame ended, and if none did: the answer that the frame gives, and the counters.
 use mathlib.Core.Path.{_≡_, refl, sym, ap, _∙_}
 use mathlib.Core.List.{List, _++_}
 use mathlib.Core.Bool.{Bool, true, false, not, cond}
@@ -31,7 +31,7 @@ use Rattle.scan.specs.declared.stats.Ended.{Ended}
 use Rattle.scan.specs.declared.stats.Ended.the-variants.{Frame, Nothing}
 use Rattle.step.proofs.Follow.{Capped, endedAs, Fits}
 
--- What is counted of the frame that a byte ended, if any: of the pieces that it closed, no other is whole.
+-- What a count gains by the frame that a byte ended, if any. No other piece that the byte closed is a whole frame.
 abbrev pub endedCount : (List ℕ → ℕ) → Option (List ℕ) → ℕ
 endedCount count (some f) = count f
 endedCount count none = 0
@@ -52,7 +52,7 @@ module _ (F : Framing) (test : List ℕ → Bool) where
       → sum (passed test) (Scanner.step F p c .closed) ≡ endedCount (λ f. cond (test f) 1 0) (Scanner.step F p c .ended)
   step-passed p c = does-passed (does F p c)
 
--- What is emitted where a frame ended, and where none did.
+-- The frame that ended is the data at the front of the buffer, framed.
 framed-here : (k : Kind) (n : ℕ) (buf : List ℕ) → n ≤ length buf
     → header k ++ (leBytes 2 n ++ (take n buf ++ tail k)) ≡ framed k (take n buf)
 unfolding framed

@@ -28,13 +28,13 @@ unfolding orReset wellFormed pendingOf
 hunting-pending limit p = refl
 
 module _ (limit : ℕ) (small : limit < 65536) where
-  -- The slice call, as its definition has it, gives back what the bytes do from the parser that is settled first.
+  -- A slice does what its bytes do, fed one by one up to a frame's end, with the scan reset first if out of range.
   slice-still : (p : Parser) (bs : List ℕ) → Valid limit p → Bytes bs
       → engine limit .slice p bs ≡ feedUntil (link limit) decoding (engine limit) (still limit p) bs
   unfolding feedSliceOf sliceMovedOf sliceBufOf
   slice-still p bs v h = until limit small bs h p v
 
-  -- Settling the parser first changes nothing that a feed sees.
+  -- A feed does the same whether or not that reset came first.
   still-feed : (p : Parser) (b : ℕ) → engine limit .feed (still limit p) b ≡ engine limit .feed p b
   unfolding feedOf movedOf bufOf
   still-feed p b = rw (or-reset-twice limit (p .scan))

@@ -30,12 +30,12 @@ use Rattle.scan.proofs.Orders.{or-reset-formed, or-reset-same}
 use Rattle.parser.proofs.Emitted.{endedCount, ended-nil, step-passed, addedBy}
 use Rattle.parser.proofs.Emitted.{emitted-scan, emitted-answer, emitted-counter}
 
--- What a parser's type says of it: the buffer has room for the largest length, and no counter is past its max.
+-- What a parser's type ensures: the buffer has room for the largest length, and no counter is above its maximum.
 pub record Valid (limit : ℕ) (p : Parser) : Type 0 where
   pub room : limit ≤ length (p .buf)
   pub capped : Capped (p .stats)
 
--- A byte that is stored leaves the buffer as long as it was.
+-- Storing a byte keeps the buffer's length.
 stored-length : (c : Scan) (buf : List ℕ) (b : ℕ) → length (stored c buf b) ≡ length buf
 unfolding stored
 stored-length c buf b = go (c .state)
@@ -46,7 +46,7 @@ stored-length c buf b = go (c .state)
     go Data = length-set buf (c .pos) b
     go Tail = refl
 
--- What a byte does to a parser, whose scan is settled first: its step, the buffer that it leaves, the scanner's step.
+-- What a byte does to a parser, its scan reset first if out of range: the step, the buffer left, the scanner's step.
 abbrev pub stepped : ℕ → Parser → ℕ → Stepped
 stepped limit p b = stepOf limit (orReset limit (p .scan)) (p .stats) b
 

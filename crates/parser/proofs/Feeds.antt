@@ -1,5 +1,5 @@
--- The feeds of a parser that is lent (LentFeed.antt of the crate `engine`).
---   byte, slice   those of a `u8` and of a `&[u8]`
+-- The two feeds of a lent parser, as LentFeed.antt of the crate `engine` describes feeds.
+--   byte, slice   the feed of a `u8`, and of a `&[u8]`
 -- Assumes nothing.
 use denote.Ref.{now}
 use Rattle.engine.proofs.PlainField.{declared}

@@ -1,10 +1,10 @@
--- A feed f by value, which lends a local to a feed g of a parser that is lent, for LocalFeed.antt's walk.
---   Hands F                  what f has beside what g is made of (LentFeed.antt): its parameter's MIR type, in which no
---                            lifetime of `&mut self` is counted, and the struct that it returns
---   code k                   f's MIR, k being g's key
+-- A feed f of a parser by value, which lends a local to a feed g of a lent parser. LocalFeed.antt walks its code.
+--   Hands F                  what f adds to the parts of g (LentFeed.antt): its parameter's MIR type, which counts no
+--                            lifetime of `&mut self`, and the struct that it returns
+--   code k                   f's MIR; k is the key of g
 --   value-ended              f's signature
 --   value-clauses            its contract: the struct holds the parser that g leaves and g's answer; demand 3 holds
---   stayed                   at exit f has nothing of its parameters
+--   stayed                   at exit f owns nothing of its parameters
 -- Assumes nothing.
 use mathlib.Core.Path.{_≡_}
 use Prim.Native.Nat.{ℕ}
@@ -45,7 +45,7 @@ pub record Hands {m : ℕ} (F : Feed parser-type m) : Type 2 where
       → Is (row result) (make p a) (vstruct (vcons (val p) (vcons v vnil)) ∷ [])
 
 module _ {m : ℕ} (F : Feed parser-type m) (R : Hands F) where
-  -- e as f has it
+  -- the type of e in f
   abbrev pub extra : Lfts m → RattleType
   extra κs =
       let E = F .extra .at κs in
@@ -91,7 +91,7 @@ module _ {m : ℕ} (F : Feed parser-type m) (R : Hands F) where
     kept = (yes, (yes, tt));
   }
 
-  -- at exit f has nothing of its parameters
+  -- at exit f owns nothing of its parameters
   abbrev pub stayed : Stays (value-ended .signature .params) (value-ended .kept)
   stayed = (stay-dropped (plain (λ _. P)) yes, (stay-dropped (plain extra) yes, tt))
 

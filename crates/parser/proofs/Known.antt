@@ -1,5 +1,5 @@
--- What a parser's type says of it: its buffer has room and no counter is past its max. So demand 3 can be claimed of
--- it, and of what a reset leaves of it. Assumes nothing.
+-- A parser's type ensures that its buffer has room and that no counter is above its maximum. So demand 3 holds from
+-- every parser, and from what a reset leaves of it. Assumes nothing.
 use native.Mathlib.Omega.{arith}
 use mathlib.Core.List.{[]}
 use lib.ListN.{length-map}

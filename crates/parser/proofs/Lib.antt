@@ -1,4 +1,4 @@
--- What is emitted where a frame ended, and where none did.
+-- What is emitted if a frame ended, and if none did.
 pub mod Emitted
 -- A byte fed does what the scanner's step does.
 pub mod Feeding
@@ -10,14 +10,15 @@ pub mod Engines
 pub mod Demand
 -- 53 bytes are not enough.
 pub mod Sooner
--- The parser as one that can be lent, and in memory.
+-- The parser's type as one that can be lent, and its cell in memory.
 pub mod Memory
--- What a parser's type says of it, and what follows of demand 3.
+-- A parser's type ensures what demand 3 asks.
 pub mod Known
--- The feeds of a parser that is lent.
+-- The two feeds of a lent parser.
 pub mod Feeds
 -- A parser in a local, lent for a call.
 pub mod Local
--- A feed by value, which lends it: what it is made of, and its walk.
+-- The code and the contract of a feed by value, which lends a local.
 pub mod Hands
+-- The walk of that code.
 pub mod LocalFeed

@@ -1,7 +1,7 @@
 -- A parser in a local is lent by `&mut` for the lifetime ν of a call of g, and comes back:
 --     fn g(&mut self, ..) -> B
---   Says κs h es r p   what g says of the parser h, of its further arguments es, of its answer r and of the parser p
---                      that it left
+--   Says κs h es r p   what g promises about the parser h, its further arguments es, its answer r and the parser p that
+--                      it left
 --   ended, clauses     g's signature, with the slots ss of the further parameters, and its contract
 --   lend   the parser h at the local l  ⊢ ⇛ ∃ δ. (the `&ν mut Parser` under the name δ, at h) ∗ Kept δ
 --   back   [†ν] ∗ Kept δ ∗ (its last parser is p)  ⊢ ⇛ the parser p at l
@@ -103,7 +103,7 @@ module _ {m : ℕ} (ss : List (Slot (suc m))) (ks : Kepts ss) (B : RattleType) w
       abbrev pub Callee : Contract 𝓤
       Callee = tripleOf 𝓤 H A (ended .signature) (closing 𝓤 H A ended clauses)
 
-      -- the parser h at l, and the further arguments es, whose type may speak of ν
+      -- the parser h at l, and the further arguments es, whose type may mention ν
       module _ (W : Given 𝓤 H A) (κs : Lfts m) (qs : Shares m) (l : ℕ) (h : Parser)
           (es : (ν : ℕ) → Denots (typesAt ss (ν ∷ [], κs))) (vss : (ν : ℕ) → Valss (typesAt ss (ν ∷ [], κs))) where
         abbrev Tokens : Item 𝓤

@@ -1,12 +1,12 @@
--- A feed f by value, which lends a local to a feed g of a parser that is lent. Its walk, once, for any such g:
+-- A feed f of a parser by value, which lends a local to a feed g of a lent parser: the walk of f, for any such g.
 --     fn f(self, e: E) -> R {
 --         let mut lent = self;
 --         let answer = lent.g(e);
 --         R { parser: lent, answer }
 --     }
--- The struct R holds the parser that g left and g's answer: so that what calls f lends nothing, and needs no walk.
+-- The struct R holds the parser that g left and g's answer, so a caller of f lends nothing and needs no walk.
 -- Hands.antt has f's code and its contract.
---   local-feed    f meets its contract, where g meets its own
+--   local-feed    f meets its contract if g meets its own
 -- Assumes nothing.
 use mathlib.Core.Path.{_≡_, refl}
 use Prim.Native.Nat.{ℕ}

@@ -1,4 +1,4 @@
--- The parser as one that can be lent (LentType.antt of the crate `engine`), and in memory.
+-- The parser's type as one that can be lent (LentType.antt of the crate `engine`), and the parser in memory.
 --   parser-type   its buffer has 64 bytes, its place is the scan
 --   P             its type
 --   val, vals     its machine value, and the list of that one value

@@ -22,7 +22,7 @@ use Rattle.step.proofs.Follow.{endedAs}
 use Rattle.scan.proofs.Orders.{or-reset-formed, or-reset-same}
 use Rattle.parser.proofs.Feeding.{Valid, stepped, left, follows-byte, stepped-valid}
 
--- What a run, or one byte, gives back.
+-- What a run gives back; and the same with one byte more.
 abbrev sliceAs : Run → Sliced Parser Answer
 sliceAs r =
     let m = emitted (r .scanned .ended) (r .scanned .scan) (r .scanned .stats) (r .buf) in
@@ -35,7 +35,7 @@ sliceAs r =
 abbrev more : Sliced Parser Answer → Sliced Parser Answer
 more s = record { state = s .state; told = suc (s .told); answer = s .answer }
 
--- A parser whose scan is settled.
+-- The parser with its scan reset, if that is out of range.
 abbrev pub still : ℕ → Parser → Parser
 still limit p = put (p .buf) (orReset limit (p .scan)) (p .stats)
 
@@ -43,7 +43,7 @@ pub or-reset-twice : (limit : ℕ) (c : Scan) → orReset limit (orReset limit c
 or-reset-twice limit c = or-reset-same limit (orReset limit c) (or-reset-formed limit c)
 
 module _ (limit : ℕ) (small : limit < 65536) where
-  -- By what the step ended, with what the bytes after it do.
+  -- A step, and the bytes after it, which count only if the step ended no frame.
   stop-as : (e : Ended) (left : List ℕ) (c : Scan) (st : Stats) (others : Run) (rest : Sliced Parser Answer)
       → (e ≡ Nothing → sliceAs others ≡ rest)
       → sliceAs (thenRun e (record { scan = c; stats = st; ended = e }) left others)

@@ -1,4 +1,5 @@
--- 53 bytes are not enough: the bytes that leave the parser, what it stands for, and that nothing is delivered; 54 are.
+-- 53 bytes are not enough: the bytes that lead to `cutOff`, what is pending then, and that the next frame is lost.
+-- 54 are enough.
 use mathlib.Core.Path.{_≡_, refl, sym, _∙_, ap, subst}
 use mathlib.Core.List.{List, [], _∷_, _++_, append-nil}
 use Prim.Native.Nat.{ℕ}

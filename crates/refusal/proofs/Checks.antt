@@ -1,4 +1,4 @@
--- The first check that fails: that it fails and those before it hold, and that each number has its cause.
+-- The first check that fails: it fails, those before it hold, and each number has exactly its cause.
 use mathlib.Core.Path.{_≡_, refl, ap}
 use mathlib.Core.Logic.{_≢_, _⊎_, inl, inr, ⊎-elim}
 use mathlib.Core.List.{List, [], _∷_, _++_}
@@ -34,7 +34,7 @@ module _ (s : List ℕ) where
       go [] p = rw (h .failed)
       go (x ∷ cs) p = rw (p .0) (go cs (p .1))
 
-  -- One more check that holds, in front.
+  -- Another check in front, which holds, does not change the first failed check.
   after-held : (x : Check × (List ℕ → Bool)) (cs : Checks) (c : Check) → x .1 s ≡ true → FailsFirst cs c s
       → FailsFirst (x ∷ cs) c s
   after-held x cs c e h = record {
@@ -56,7 +56,7 @@ module _ (s : List ℕ) where
       go false h more e = let q : x .0 ≡ c = cc in
           record { before = []; test = x .1; after = cs; split = rw q; held = tt; failed = h }
 
--- Checks in front of others: the first of them that fails is the first of all; where none fails the others decide.
+-- Checks cs before checks ds: the first of cs that fails is the first of all; if none of cs fails, ds decide.
 module _ (s : List ℕ) (ds : Checks) where
   pub failed-before : (cs : Checks) (c : Check) → firstFailed cs s ≡ Maybe.Some c
       → firstFailed (cs ++ ds) s ≡ Maybe.Some c
@@ -79,7 +79,7 @@ module _ (s : List ℕ) (ds : Checks) where
       go true more e = more e
       go false more e = let z : _≡_ {A = ℕ} 0 1 = cc in absurd (omega arith)
 
--- Every check but R6 gives 1.
+-- Every check but R6 gives refusal 1.
 given : (c : Check) → (errorOf c ≡ InvalidFormat) ⊎ (c ≡ R6)
 given F1 = inl refl
 given F2 = inl refl
@@ -96,7 +96,7 @@ given R8 = inl refl
 given A1 = inl refl
 given A2 = inl refl
 
--- R6 gives 2, so a check that gives 1 is another.
+-- R6 gives refusal 2, so a check that gives 1 is not R6.
 other-than-R6 : (c : Check) → errorOf c ≡ InvalidFormat → c ≢ R6
 other-than-R6 c e q = let z : _≡_ {A = ℕ} 0 1 = cc (ap errorOf q) in absurd (omega arith)
 
@@ -142,7 +142,7 @@ module _ (cs : Checks) (s : List ℕ) where
         ⊎-elim (λ i. rw i (failed-other c (other-than-R6 c i) e)) (λ q. rw q (failed-R6 (rw q at e))) (given c)
     causes-of Maybe.None e = passed e
 
-    -- Every reader that answers by its first failed check gives each number exactly in its cause, and 0 in every other
-    -- field.
+    -- A reader that answers by its first failed check gives each number exactly in its cause; beside a refusal every
+    -- other field is 0.
     pub causes : Causes z cs s (returned z (outcomeOf (firstFailed cs s)) v)
     causes = causes-of (firstFailed cs s) refl

@@ -1,3 +1,3 @@
 -- Laws about the definitions, which the proofs of this crate and of the crates above cite.
--- The first check that fails.
+-- The first check that fails, and its refusal.
 pub mod Checks

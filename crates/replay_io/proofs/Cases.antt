@@ -1,4 +1,4 @@
--- Cases in a buffer: what is found at the front of the bytes that are left, and that none of them is lost.
+-- Cases in a buffer: what is found at the front of the unused bytes, and that none of these is lost.
 use mathlib.Core.Path.{_≡_, refl, sym, ap, _∙_}
 use mathlib.Core.List.{List, [], _++_, append-nil}
 use mathlib.Core.Bool.{Bool, true, false, cond}
@@ -15,7 +15,7 @@ use Rattle.replay_io.specs.Case.{NextCase, Grown}
 use Rattle.replay_io.specs.declared.input.Found.the-variants.{Case, Long, Short, End}
 use Rattle.replay_io.specs.declared.input.Next.{Next}
 
--- What is found, by its tests.
+-- What is found, from the tests.
 module _ (s : List ℕ) (n : ℕ) (e : n ≡ fieldAt 4 s 1) where
   pub found-long : 70000 < n → Long ≡ foundIn s
   unfolding foundIn
@@ -41,7 +41,7 @@ module _ (s : List ℕ) (n : ℕ) (e : n ≡ fieldAt 4 s 1) where
       unfolding foundIn
       found-short h = rw (not-long, not-whole, ne-eqb (length s) 0 h)
 
--- What is found is no longer than the bytes, nor than the longest case.
+-- A case that is found is no longer than the bytes, nor than the longest case.
 module _ (s : List ℕ) where
   sized-by : (a b c : Bool) → ltb 70000 (fieldAt 4 s 1) ≡ a → leb (caseSize s) (length s) ≡ b
       → let n = sized (cond a Long (cond b Case (cond c End Short))) s in (n ≤ length s) × (n ≤ 70005)
@@ -67,7 +67,7 @@ module _ (b : List ℕ) (i n : ℕ) (ordered : i ≤ n) (inside : n ≤ length b
   next-small : i + sized (foundIn (unread b i n)) (unread b i n) ≤ i + 70005
   next-small = let h = sized-within (unread b i n) .1 in omega arith
 
--- The bytes that are left, and what stands at their front, by places that were compared with the buffer's length.
+-- The unused bytes and the next case, from the code's places i and n.
 module _ (b : List ℕ) (x : Next) (i n : ℕ) (read : n ≡ readOf b x) (used : i ≡ min (x .end) n) where
   pub unused-here : unread b i n ≡ unused b x
   unused-here = rw (← read, ← used)
@@ -75,14 +75,14 @@ module _ (b : List ℕ) (x : Next) (i n : ℕ) (read : n ≡ readOf b x) (used :
   pub next-here : (r : Next) → r ≡ nextAt b i n → r ≡ nextAt b (usedOf b x) (readOf b x)
   next-here r e = rw (← read, ← used) e
 
--- What is found there.
+-- The code's test whether what is found is decided.
 module _ (b : List ℕ) (x r : Next) where
   pub next-tested : (t : Bool) → t ≡ decided (r .found) → r ≡ nextAt b (usedOf b x) (readOf b x)
       → t ≡ decided (foundIn (unused b x))
   unfolding nextAt
   next-tested t q e = q ∙ ap (λ (y : Next). decided (y .found)) e
 
--- The next case, where the bytes that are left say what it is.
+-- The next case, if the unused bytes decide it: nothing is moved or read.
 pub next-still : (b : List ℕ) (x r : Next) → decided (foundIn (unused b x)) ≡ true
     → r ≡ nextAt b (usedOf b x) (readOf b x) → NextCase b x b r
 unfolding nextAt
@@ -101,7 +101,7 @@ next-still b x r d e =
       front = λ q. let z : _≡_ {A = ℕ} 0 1 = cc in absurd (omega arith);
     })
 
--- The next case, where they are moved to the front, and more are read.
+-- The next case, if they do not: they are moved to the front, and more are read.
 pub next-front : (b : List ℕ) (x : Next) (b′ : List ℕ) (r : Next) (n : ℕ) (more : List ℕ)
     → decided (foundIn (unused b x)) ≡ false → n ≤ length b′ → r ≡ nextAt b′ 0 n → unread b′ 0 n ≡ unused b x ++ more
     → NextCase b x b′ r
@@ -120,7 +120,7 @@ next-front b x b′ r n more d w e k =
       front = λ q. refl;
     })
 
--- The bytes moved to the front, one more at a turn: those from there on are as they were.
+-- Moving bytes to the front, one more each turn: those from place i + 1 on stay as they were.
 module _ (b₀ b : List ℕ) (u i : ℕ) (moved : take i b ≡ take i (drop u b₀)) (rest : drop i b ≡ drop i b₀) where
   element : getD b (u + i) 0 ≡ getD b₀ (u + i) 0
   element =
@@ -144,7 +144,7 @@ module _ (b₀ b : List ℕ) (u i : ℕ) (moved : take i b ≡ take i (drop u b�
   rest-next a =
       drop-set-lt (i + 1) b i a (omega arith) ∙ rw (← drop-drop 1 i b, ← drop-drop 1 i b₀, rest)
 
--- Bytes read after those that are kept.
+-- Reading after the first k bytes: nothing is read; two readings are one.
 pub grown-none : (b : List ℕ) (k : ℕ) → k ≤ length b → Grown b k b k
 grown-none b k h = record { ordered = omega arith; within = h; kept = refl }
 
@@ -155,7 +155,7 @@ grown-more {b} {b′} {b″} {k} {n} {m} g h = record {
   kept = sym (take-take k n b″ (g .ordered)) ∙ ap (take k) (h .kept) ∙ take-take k n b′ (g .ordered) ∙ g .kept;
 }
 
--- The bytes that are read: those that were kept, and more.
+-- The bytes in the buffer then: those that were kept, and more.
 pub grown-unread : {b b′ : List ℕ} {k n : ℕ} → Grown b k b′ n
     → unread b′ 0 n ≡ take k b ++ take (n - k) (drop k b′)
 grown-unread {b} {b′} {k} {n} g =

@@ -12,11 +12,11 @@ pub decimal-one : (v : ℕ) → v < 10 → decimalOf v ≡ (48 + v) ∷ []
 unfolding decimalOf
 decimal-one v h = rw (lt-ltb v 10 h)
 
--- The least number with two digits or more.
+-- A number with r + 2 digits is at least 10 ^ (r + 1).
 least : (v r : ℕ) → Fewest 10 1 v (suc (suc r)) → 10 ^ suc r ≤ v
 least v r f = let e : suc (suc r) - 1 ≡ suc r = omega arith in rw e at (f .2 (omega arith))
 
--- A tenth has one digit less.
+-- A tenth of a number has one digit less.
 tenth-below : (v r : ℕ) → v < 10 ^ suc (suc r) → v / 10 < 10 ^ suc r
 tenth-below v r h =
     div-lt-iff-lt-mul {k = 10} {x = v} {y = 10 ^ suc r} (omega arith) .1 (rw (pow-suc 10 (suc r)) at h)
@@ -34,7 +34,7 @@ ten-up : (r : ℕ) → 10 ≤ 10 ^ suc r
 ten-up zero = omega arith
 ten-up (suc r) = let h = ten-up r in rw (pow-suc 10 (suc r)) (omega arith)
 
--- A number with two digits or more: those of its tenth, and the last.
+-- The digits of a number with two or more: those of its tenth, then the last.
 spelled-more : (k r v : ℕ) → Fewest 10 1 v (suc (suc r)) → digits 10 (suc r) (v / 10) ≡ spelled k (v / 10)
     → digits 10 (suc (suc r)) v ≡ spelled (suc k) v
 spelled-more k r v f e =

@@ -1,4 +1,4 @@
--- The fields of an argument: what the code's answer for a number that may be missing says, at each width.
+-- The fields of an argument: the number in the code's answer, or 0 if it is missing, at each width.
 use mathlib.Core.Path.{_≡_, refl, ap, _∙_}
 use mathlib.Core.List.{List}
 use mathlib.Core.Option.{Option, none, some}
@@ -12,7 +12,7 @@ use Rattle.wire.specs.declared.number.MaybeU32.{MaybeU32}
 use Rattle.wire.specs.declared.number.MaybeU32.the-variants as U32
 use Rattle.replay_io.specs.Argument.{orZero, fieldAt}
 
--- The number that an answer holds, 0 where it is missing.
+-- The number in an answer, or 0 if it is missing.
 abbrev pub value8 : MaybeU8 → ℕ
 value8 (U8.Some x) = x
 value8 U8.None = 0
@@ -25,7 +25,7 @@ abbrev pub value32 : MaybeU32 → ℕ
 value32 (U32.Some x) = x
 value32 U32.None = 0
 
--- The answer for a number holds that number.
+-- The number in the answer for o is that of o, or 0.
 module _ {M : Type 0} (value : M → ℕ) (there : ℕ → M) (missing : M) (some-value : (x : ℕ) → value (there x) ≡ x)
     (none-value : value missing ≡ 0) where
   held : (o : Option ℕ) → value (answered there missing o) ≡ orZero o

@@ -1,15 +1,15 @@
 -- Laws about the definitions, which the proofs of this crate cite.
--- Parts of a list at places past its end.
+-- Parts of a list at places that may be past its end.
 pub mod Parts
--- Fields of an argument.
+-- The fields of an argument.
 pub mod Fields
 -- Bytes put one after the other.
 pub mod Puts
--- Decimal digits.
+-- The decimal digits of a number.
 pub mod Decimals
 -- Numbers put one after the other.
 pub mod Numbers
--- Numbers with a sign.
+-- Numbers of sixteen bits with a sign.
 pub mod Signs
 -- Cases in a buffer.
 pub mod Cases

@@ -24,7 +24,7 @@ pub numbers-nil : (g : Gathered) (s : List ℕ) → g ≡ putAll g (numbersOf (t
 unfolding numbersOf putAll
 numbers-nil g s = refl
 
--- A loop over numbers: the next of them is put, and all of them.
+-- A loop over numbers: the next one is put, and at the end all are.
 module _ (g h k : Gathered) (s : List ℕ) (i : ℕ) (before : h ≡ putAll g (numbersOf (take i s))) where
   pub numbers-next : (v : ℕ) → v ≡ getD s i 0 → i < length s → k ≡ putAll h (numbersOf (v ∷ []))
       → k ≡ putAll g (numbersOf (take (i + 1) s))
@@ -35,6 +35,6 @@ module _ (g h k : Gathered) (s : List ℕ) (i : ℕ) (before : h ≡ putAll g (n
   pub numbers-whole : length s ≤ i → h ≡ putAll g (numbersOf s)
   numbers-whole l = rw (take-all i s l) at before
 
-  -- As many as there are, of those that were asked for.
+  -- The first n, or all if there are fewer.
   pub numbers-first : (n : ℕ) → i ≡ min n (length s) → h ≡ putAll g (numbersOf (take n s))
   numbers-first n e = rw (take-within s n i e) at before

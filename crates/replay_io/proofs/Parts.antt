@@ -1,4 +1,4 @@
--- Parts of a list at places past its end.
+-- Parts of a list at place i, which may be past its end; n is at most the length.
 use mathlib.Core.Path.{_≡_, refl, sym, _∙_}
 use mathlib.Core.List.{List}
 use mathlib.Core.Bool.{Bool, true, false}
@@ -16,7 +16,7 @@ module _ (s : List ℕ) (i n : ℕ) (e : n ≡ min i (length s)) where
       let l = leb-false i (length s) h in
       take-all n s (omega arith) ∙ sym (take-all i s (omega arith))
 
-  -- The first i are all where there are fewer.
+  -- The first n are the first i.
   pub take-within : take n s ≡ take i s
   take-within = take-by (leb i (length s)) refl
 
@@ -28,6 +28,6 @@ module _ (s : List ℕ) (i n : ℕ) (e : n ≡ min i (length s)) where
       let k : length s ≤ i = omega arith in
       drop-of-length-le s m ∙ sym (drop-of-length-le s k)
 
-  -- From past the end on there is nothing.
+  -- The rest from place n on is the rest from place i on.
   pub rest-within : take (length s - n) (drop n s) ≡ drop i s
   rest-within = take-all (length s - n) (drop n s) (omega (arith, length-drop n s)) ∙ drop-by (leb i (length s)) refl

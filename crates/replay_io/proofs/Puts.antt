@@ -11,7 +11,7 @@ use lib.Seq.{take-suc, take-all}
 use borrow.Author.Tests.{lt-ltb, le-ltb, ltb-true}
 use Rattle.replay_io.specs.Line.{Gathered, place, putByte, putAll}
 
--- The place of the next byte: below the end of the buffer.
+-- The next byte's place: after those taken, or 0 if the buffer is full.
 pub place-after : (n : ℕ) → n < 65536 → n ≡ place n
 unfolding place
 place-after n h = rw (lt-ltb n 65536 h)
@@ -41,11 +41,11 @@ pub put-one : (g : Gathered) (b : ℕ) → putByte g b ≡ putAll g (b ∷ [])
 unfolding putAll
 put-one g b = refl
 
--- Texts one after the other: what the second leaves is what both leave.
+-- Two texts put one after the other are the joined text put at once.
 pub put-then : (g h k : Gathered) (s t : List ℕ) → h ≡ putAll g s → k ≡ putAll h t → k ≡ putAll g (s ++ t)
 put-then g h k s t p q = rw (put-append, ← p) q
 
--- A loop over bytes: the next of them is put, and all of them.
+-- A loop over bytes: the next one is put, and at the end all are.
 module _ (g h k : Gathered) (s : List ℕ) (i : ℕ) (before : h ≡ putAll g (take i s)) where
   pub put-next : i < length s → k ≡ putByte h (getD s i 0) → k ≡ putAll g (take (i + 1) s)
   put-next l e =

@@ -13,7 +13,7 @@ use borrow.Author.Tests.{ltb-true}
 use Rattle.replay_io.specs.Line.{Gathered, putAll, decimalOf, numbersOf, signedText}
 use Rattle.replay_io.proofs.Puts.{put-then}
 
--- A number below 0: in 32 bits its negation fits too, and is how far it is from 0.
+-- A number below 0: its negation fits 32 bits, and is how far it is from 0.
 pub record Minus (z : ℤ) : Type 0 where
   pub wide : SFits w32 z
   pub fits : SFits w32 (pos 0 -ℤ z)
@@ -31,7 +31,7 @@ minus (negsuc n) f l = record {
   far = omega arith;
 }
 
--- Any other is that itself.
+-- Any other number is itself how far it is from 0.
 pub record Plus (z : ℤ) : Type 0 where
   pub positive : T (nonNeg z)
   pub held : Fits w64 (natAbs z)
@@ -40,7 +40,7 @@ pub plus : (z : ℤ) → SFits w16 z → ltZ z (pos 0) ≡ false → Plus z
 plus (pos n) f l = record { positive = tt; held = record { fits = omega (arith, f .sfits) } }
 plus (negsuc n) f l = absurd (true≢false l)
 
--- Its text: a minus sign before the digits where it is below 0, and none else.
+-- The text of a number has a minus sign before the digits exactly if it is below 0.
 pub signed-minus : (g h k : Gathered) (z : ℤ) (v : ℕ) → ltZ z (pos 0) ≡ true → v ≡ natAbs z
     → h ≡ putAll g (32 ∷ 45 ∷ []) → k ≡ putAll h (decimalOf v) → k ≡ putAll g (signedText z)
 unfolding signedText

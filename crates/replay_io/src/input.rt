@@ -65,9 +65,9 @@ pub fn nothing_read() -> Next
     }
 }
 
-// Returns the case after `case`, the one that was given before. The bytes that follow that one are kept: if they are no
-// whole case, they are moved to the front of the buffer, and more are read after them until a case is whole or too
-// long, or the input ends. A read that fails counts as the end of the input, and so does a buffer that is full; one of
+// Returns the case after `case`, the one that was given before. The bytes that follow that one are kept: a case that is
+// cut short is moved to the front of the buffer, and more are read after it until it is whole or too long, or the input
+// ends. A read that fails counts as the end of the input, and so does a buffer that is full; one of
 // `SIZE` bytes holds any case. No contract can name the bytes that a read gives, nor say that the read was made: `more`
 // is trusted to put the input's bytes after those that were kept.
 pub fn next_case(input: &mut [u8], case: Next) -> Next

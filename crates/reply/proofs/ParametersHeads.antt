@@ -16,7 +16,7 @@ use Rattle.reply.specs.declared.parameters_head.ParametersHead.{Paramete
 use Rattle.reply.specs.declared.parameters_head.MaybeParametersHead.the-variants.{Some, None}
 
 module _ (p : List ℕ) where
-  -- Its four bytes are not there, it begins with another, or it has too many gates; else it is read.
+  -- Nothing is read if there are fewer than four bytes, the first is not AA, or `max_gate` is above 8.
   pub head-short : length p < 4 → None ≡ headIn p
   unfolding headIn
   head-short h = rw (lt-leb 4 (length p) h)

@@ -1,4 +1,4 @@
--- A payload read as a reply, whichever it is.
+-- A payload read as any reply.
 use mathlib.Core.Path.{_≡_}
 use mathlib.Core.List.{List}
 use mathlib.Core.Bool.{true, false}
@@ -10,7 +10,7 @@ use Rattle.refusal.specs.declared.Outcome.{Outcome}
 use Rattle.refusal.specs.declared.Outcome.the-variants.{Ok, Err}
 use Rattle.reply.specs.Reply.{Reply, sized, readAs}
 
--- A payload read as a reply: it is readable, or it is refused.
+-- A payload is readable, or it is refused.
 module _ {A B : Type 0} (answer : Outcome → A → B) (r : Reply A) (p : List ℕ) where
   pub read-fits : r .readable p ≡ true → readAs answer r p ≡ answer Ok (r .value p)
   unfolding readAs
@@ -20,7 +20,7 @@ module _ {A B : Type 0} (answer : Outcome → A → B) (r : Reply A) (p : List �
   unfolding readAs
   read-refused e = rw e
 
--- The same of a reply in n bytes.
+-- The same for a reply of n bytes.
 module _ {A B : Type 0} (answer : Outcome → A → B) (w n : ℕ) (value : List ℕ → A) (p : List ℕ) where
   pub sized-long : n ≤ length p → readAs answer (sized w n value) p ≡ answer Ok (value p)
   sized-long h = read-fits answer (sized w n value) p (le-leb n (length p) h)

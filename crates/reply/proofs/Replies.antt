@@ -1,5 +1,5 @@
--- The three replies of one size each: what a payload is read as, by what is read of it; and what an answer returns, the
--- value that it was made of, or the refusal with every other field 0.
+-- The three replies of fixed size: what a payload is read as, from the numbers or bytes read in it; and what an answer
+-- returns, its value, or the refusal with every other field 0.
 use mathlib.Core.Path.{_≡_, refl, sym, _∙_}
 use mathlib.Core.List.{List}
 use Prim.Native.Nat.{ℕ, _≤_, _<_}

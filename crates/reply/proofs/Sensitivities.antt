@@ -1,4 +1,4 @@
--- A parameters payload: what it is read as, by its head and by whether its seconds are there. And what an answer
+-- A parameters payload: what it is read as, given its head and whether its seconds are there; and what an answer
 -- returns.
 use mathlib.Core.Path.{_≡_, refl, sym, ap, _∙_}
 use mathlib.Core.List.{List}
@@ -30,7 +30,7 @@ use Rattle.reply.specs.Parameters.{returnedParameters}
 use Rattle.reply.specs.declared.parameters.Parameters.{Parameters}
 use Rattle.reply.specs.declared.parameters.ParametersResult.{ParametersResult}
 
--- An answer returns what its outcome says.
+-- An answer returns its value, or the refusal with every other field 0.
 pub parameters-returned : (o : Outcome) (v : Parameters)
     → returnedParameters (parametersAs o v) ≡ returned noParameters o v
 parameters-returned Ok v = refl
@@ -47,7 +47,7 @@ module _ (p : List ℕ) where
   refused-short : length p < secondsAt p + 2 → Refused p
   refused-short h = refused (rw (lt-leb (secondsAt p + 2) (length p) h))
 
-  -- Its head is not there, or does not fit.
+  -- Its head is missing, or does not fit.
   unfit : (t : Bool) → leb 4 (length p) ≡ t → (t && (eqb (getD p 0 0) 0xAA && leb (getD p 1 0) 8)) ≡ false → Refused p
   unfit true e h = refused (rw (h, and-false))
   unfit false e h = let four = leb-false 4 (length p) e in refused-short (omega arith)
@@ -56,7 +56,7 @@ module _ (p : List ℕ) where
       → r ≡ parametersAs (Err InvalidFormat) noParameters → r ≡ readAs parametersAs parametersReply p
   parameters-missing o r e n f = f ∙ sym (unfit (leb 4 (length p)) refl (head-none p (sym e ∙ n)))
 
-  -- Where its seconds are there, so are the sensitivities before them.
+  -- If its seconds are there, so are the sensitivities before them.
   module _ (g : ℕ) (q : MaybeU16) (x : ℕ) (eq : q ≡ le16At p (4 + g + g)) (qx : q ≡ U16.Some x) where
     pub stationary-inside : 4 + g + g ≤ length p
     stationary-inside = let seconds = read-some two p (4 + g + g) (sym eq ∙ qx) in omega arith
@@ -64,7 +64,7 @@ module _ (p : List ℕ) where
     pub moving-inside : 4 + g ≤ length p
     moving-inside = let inside = stationary-inside in omega arith
 
--- Where its head is f, which says how many gates it has.
+-- If its head is f; q is the answer for its seconds.
 module _ (p : List ℕ) (o : MaybeParametersHead) (f : ParametersHead) (eo : o ≡ headIn p) (of : o ≡ Some f)
     (q : MaybeU16) (eq : q ≡ le16At p (4 + (f .«max_gate» + 1) + (f .«max_gate» + 1))) where
   abbrev gates : ℕ
@@ -76,7 +76,7 @@ module _ (p : List ℕ) (o : MaybeParametersHead) (f : ParametersHead) (eo : o �
   gate : f .«max_gate» ≡ getD p 1 0
   gate = ap (λ g. g .«max_gate») (readable .1)
 
-  -- Without its seconds it is refused.
+  -- If its seconds are missing, it is refused.
   pub parameters-short : (r : ParametersResult) → q ≡ U16.None → r ≡ parametersAs (Err InvalidFormat) noParameters
       → r ≡ readAs parametersAs parametersReply p
   parameters-short r n e =

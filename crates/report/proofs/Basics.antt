@@ -24,7 +24,7 @@ module _ (b : List ℕ) where
   unfolding basicAt
   basic-missing h = rw (lt-leb 9 (length b) h)
 
-  -- The fields one by one, as they are read.
+  -- The answer from the fields as the code reads them.
   pub basic-read : {t m e n f d : ℕ} → byteAt b 0 ≡ U8.Some t → le16At b 1 ≡ U16.Some m → byteAt b 3 ≡ U8.Some e
       → le16At b 4 ≡ U16.Some n → byteAt b 6 ≡ U8.Some f → le16At b 7 ≡ U16.Some d
       → Some (record {
@@ -46,7 +46,7 @@ module _ (b : List ℕ) where
         last .value,
       ) (sym (basic-there (omega arith)))
 
-  -- What they say of the bytes.
+  -- What the answer says of the bytes.
   pub basic-some : (f : Basic) → basicAt b ≡ Some f → (9 ≤ length b) × (f ≡ basicOf b)
   unfolding basicAt
   basic-some f e = let t = cond-true (leb 9 (length b)) _ None e (λ q. cc) in (leb-true 9 (length b) t, cc)

@@ -1,4 +1,4 @@
--- The reader's answer by the checks R1 to R5, one after another; and what it says of all eight.
+-- The answer to the layout: R1 to R5, one after another; and what it says of all eight checks.
 use mathlib.Core.Path.{_≡_, refl, sym, _∙_}
 use mathlib.Core.List.{List, [], _∷_}
 use mathlib.Core.Bool.{Bool, true, false, not}
@@ -35,7 +35,7 @@ use Rattle.report.specs.declared.layout.CheckedLayout.the-variants.{Ok, 
 pub body-part : (s : List ℕ) → take (length s - 2 - 2) (drop 2 s) ≡ body s
 body-part s = let e : length s - 2 - 2 ≡ length s - 4 = omega arith in rw e
 
--- The bytes after the basic ones, so too.
+-- The bytes after the basic ones, as the code cuts them out.
 pub block-part : (s : List ℕ) → 13 ≤ length s → take (length s - 2 - 11) (drop 11 s) ≡ block s
 block-part s h =
     let b = drop 2 s in
@@ -44,15 +44,15 @@ block-part s h =
     let nine : length (take 9 b) ≡ 9 = simp (length-take, length-drop) (omega arith) in
     rw (n, take-add 9 m b, drop-at (take 9 b) (take m (drop 9 b)) 9 nine, drop-drop 9 2 s)
 
--- The last two bytes, so too.
+-- The last two bytes, as the code cuts them out.
 abbrev trailer : List ℕ → List ℕ
 trailer s = take (length s - (length s - 2)) (drop (length s - 2) s)
 
 pub two-more : (s : List ℕ) → 4 ≤ length s → 2 ≤ length s - 2
 two-more s h = omega arith
 
--- R1 to R5, each after those before it: of the answers o, q and k to the second byte, to the type and to the basic
--- bytes, and of the answer r to whether the last two are 55 00.
+-- R1 to R5, each after those before it. The code's answers are o for the second byte, q for the type, k for the basic
+-- bytes; r is whether the last two bytes are 55 00.
 module _ (s : List ℕ) where
   pub fails-R1 : length s < 2 → Failed R1 ≡ checkedLayout s
   unfolding checkedLayout
@@ -143,7 +143,7 @@ module _ (s : List ℕ) where
       let nine = body-long v e in
       omega (arith, length-take (length s - 4) (drop 2 s), length-drop 2 s)
 
-  -- So the last two bytes are there, and the block is before them.
+  -- So the last two bytes are there, and the eleven bytes before the block end before them.
   module _ (k : CheckedLayout) (v : Layout) (e : k ≡ checkedLayout s) (t : k ≡ Ok v) where
     pub trailer-inside : 2 ≤ length s
     trailer-inside = omega (arith, data-long v (sym e ∙ t))

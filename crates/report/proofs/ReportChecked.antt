@@ -1,4 +1,4 @@
--- The reader's answer by the layout, and by the checks after it.
+-- The reader's answer, from the layout and the checks after it.
 use mathlib.Core.Path.{_≡_, refl, sym, _∙_}
 use mathlib.Core.List.{List}
 use mathlib.Core.Bool.{true, false}
@@ -41,13 +41,13 @@ pub checked-failed : (s : List ℕ) → checkedReport s .failed ≡ firstFailed 
 unfolding checkedReport
 checked-failed s = as-failed (firstFailed reportChecks s) (reportOf s)
 
--- What it returns by that check.
+-- What is returned for that check.
 as-returned : (o : MaybeCheck) (v : Report)
     → beside (outcomeOf (checkedAs o v .failed)) (checkedAs o v .report) ≡ returned noReport (outcomeOf o) v
 as-returned (Some c) v = refl
 as-returned None v = refl
 
--- Where the state is that of a calibration, no target is told.
+-- If the state is one of calibration, the report has no target.
 as-calibrated : (o : MaybeCheck) (s : List ℕ) → Calibrated s (checkedAs o (reportOf s) .report)
 unfolding reportOf
 as-calibrated (Some c) s h = (refl, (refl, refl))
@@ -64,7 +64,7 @@ parsed-whole s e =
     let told = as-returned o (reportOf s) in
     (e, (rw (e, told) (causes reportChecks s noReport (reportOf s)), rw e (as-calibrated o s)))
 
--- By what the layout is read as.
+-- From the answer k to the layout.
 module _ (s : List ℕ) where
   pub layout-fails : (k : CheckedLayout) (c : Check) (o : MaybeCheck) (r : CheckedReport) → k ≡ checkedLayout s
       → k ≡ Failed c → o ≡ failedIn k → r ≡ failing o → r ≡ checkedReport s
@@ -78,7 +78,7 @@ module _ (s : List ℕ) where
       let known = sym e ∙ t in
       c ∙ rw (layout-is s v known, block-part s (data-long s v known), first-later s v known)
 
--- R6 to R8, of the answer r to the basic fields f and the bytes b after them.
+-- R6 to R8: r is the answer for the basic fields f and the bytes b after them.
 module _ (f : Basic) (b : List ℕ) (r : CheckedReport) where
   pub fails-R6 : (t : ℕ) → (t ≡ 0x01 → ⊥) → (t ≡ 0x02 → ⊥) → r ≡ failing (Some R6) → r ≡ completedReport f t b
   unfolding completedReport
@@ -93,7 +93,7 @@ module _ (f : Basic) (b : List ℕ) (r : CheckedReport) where
   unfolding completedReport
   completes-basic e v h n m q = q ∙ rw (m, n, eq-eqb (length b) 0 h)
 
-  -- By the answer k to the block.
+  -- From the answer k to the block.
   module _ (k : CheckedEngineering) (ek : k ≡ checkedBlock b) where
     pub fails-R8 : (c : Check) → k .failed ≡ Some c → r ≡ failing (k .failed) → r ≡ completedReport f 0x01 b
     unfolding completedReport

@@ -1,4 +1,4 @@
--- The nine basic bytes: what is written is read as it was, and what is read is written as it was.
+-- The nine basic bytes: the fields come back, and the bytes do if the state byte is at most `stateMax`.
 use mathlib.Core.Path.{_≡_, refl, sym}
 use mathlib.Core.List.{List, _∷_, _++_}
 use Prim.Native.Nat.{ℕ, _+_, _≤_, _<_}
@@ -18,7 +18,7 @@ use Rattle.report_writer.specs.Data.{basicBytes}
 use Rattle.report_writer.proofs.Typed.{TypedReport}
 use mathlib.Core.Bool.{Bool}
 
--- The fields come back, whatever stands after the nine bytes.
+-- The fields come back, whatever follows the nine bytes.
 pub basic-back : (r : Report) (b : List ℕ) {g : Bool} {x : Engineering} → TypedReport r → g ≡ r .«has_engineering»
     → x ≡ r .engineering → reportWith (basicOf (basicBytes r ++ b)) g x ≡ r
 basic-back r b t p q =
@@ -31,11 +31,11 @@ basic-back r b t p q =
       q,
     )
 
--- A byte in front of the rest.
+-- A byte and those after it.
 byte-again : (s : List ℕ) (i : ℕ) (r : List ℕ) → i < length s → r ≡ drop (i + 1) s → getD s i 0 ∷ r ≡ drop i s
 byte-again s i r h e = rw (e, add-one i) (sym (drop-cons s i 0 h))
 
--- So do the bytes, where the state byte is one that is sent.
+-- The bytes come back, if the state byte is at most `stateMax`.
 pub basic-again : (s : List ℕ) (flag : Bool) (e : Engineering) → 9 ≤ length s → Bytes s
     → getD s 0 0 ≤ stateMax → basicBytes (reportWith (basicOf s) flag e) ++ drop 9 s ≡ s
 basic-again s flag e h b k =

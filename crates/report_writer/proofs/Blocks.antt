@@ -1,4 +1,4 @@
--- The engineering block: what is written is read as it was, and what is read is written as it was.
+-- The engineering block: the fields come back, and a block of at most eight reserved bytes does.
 use mathlib.Core.Path.{_≡_, sym, _∙_}
 use mathlib.Core.List.{List, _∷_, _++_}
 use mathlib.Core.Bool.{true}
@@ -19,7 +19,7 @@ use Rattle.report_writer.proofs.Padding.{zeros-whole, padded-back, padd
 use Rattle.report_writer.proofs.ReportData.{moving-length, stationary-length, reserved-length, block-length}
 use Rattle.report_writer.proofs.Shapes.{two-front}
 
--- An engineering part by its fields.
+-- An engineering part is determined by its fields.
 by-fields : (e : Engineering) {m s n : ℕ} {p q x : List ℕ} → m ≡ e .«moving_gates» → s ≡ e .«stationary_gates»
     → p ≡ e .«moving_energy» → q ≡ e .«stationary_energy» → x ≡ e .extra → n ≡ e .«extra_len»
     → record {
@@ -32,7 +32,7 @@ by-fields : (e : Engineering) {m s n : ℕ} {p q x : List ℕ} → m ≡ e .«mo
     } ≡ e
 by-fields e a b c d f g = rw (a, b, c, d, f, g)
 
--- What is written is read as it was.
+-- The fields come back from their block.
 module _ (e : Engineering) (t : TypedBlock e) where
   -- With the flag off, every field is 0.
   pub none-back : Within 0 0 0 e → noEngineering ≡ e
@@ -92,7 +92,7 @@ module _ (e : Engineering) (t : TypedBlock e) where
         (rw block-reserved (padded-back (t .extra) (w .reserved) (omega arith)))
         (rw block-reserved (omega (arith, reserved-length e t w)))
 
--- What is read is within the bounds, and is written as it was.
+-- A block that fits is read as fields within the bounds, and comes back from them.
 module _ (b : List ℕ) (h : Fits b) (s : length (reserved b) ≤ 8) where
   abbrev moving : List ℕ
   moving = take (movingGates b) (drop 2 b)

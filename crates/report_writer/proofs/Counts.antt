@@ -1,4 +1,4 @@
--- The tests of counts, and what they say: a count within its bounds, and what is past it 0.
+-- The tests of counts, and what they mean: a count is within its bounds, and the entries after it are 0.
 use mathlib.Core.Path.{_≡_, refl, _∙_}
 use mathlib.Core.List.{List}
 use mathlib.Core.Bool.{Bool, true, false, cond, _&&_, and-eq-true-iff}
@@ -75,7 +75,7 @@ module _ (a b k : ℕ) (e : Engineering) where
       within-third (counted-complete a b _ _ (h .moving)) (counted-complete a b _ _ (h .stationary))
       ∙ counted-complete 0 k _ _ (h .reserved)
 
--- A report that can be written: its flag is on, or off, and its counts are within the bounds for it.
+-- A report that can be written: its counts are within the bounds for its flag, on or off.
 pub data Writable (r : Report) : Type 0 where
   flag-on : r .«has_engineering» ≡ true → Within 1 9 8 (r .engineering) → Writable r
   flag-off : r .«has_engineering» ≡ false → Within 0 0 0 (r .engineering) → Writable r

@@ -3,7 +3,7 @@
 pub mod Zeros
 -- The tests of counts, and which reports can be written.
 pub mod Counts
--- What the types of a report say.
+-- Bounds from the types of a report's fields.
 pub mod Typed
 -- A counted prefix padded with zeros.
 pub mod Padding
@@ -15,5 +15,5 @@ pub mod Shapes
 pub mod Blocks
 -- The nine basic bytes, written and read.
 pub mod Basics
--- What is written is read as the report, and what is read is written as it was.
+-- A written report is read back, and a read one, within limits, is written again.
 pub mod RoundTrip

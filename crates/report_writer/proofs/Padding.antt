@@ -1,4 +1,4 @@
--- A counted prefix padded with zeros: it comes back from an array that is 0 after it, and the array from it.
+-- A counted prefix padded with zeros: prefix and array come back from each other.
 use mathlib.Core.Path.{_≡_, refl, sym}
 use mathlib.Core.List.{List, [], _∷_, _++_}
 use mathlib.Core.Bool.{true, and-eq-true-iff}
@@ -27,7 +27,7 @@ unfolding allZero
 zeros-replicate zero = refl
 zeros-replicate (suc n) = zeros-replicate n
 
--- An array that is 0 after its count is the padding of what is counted; one that is 0 throughout is zeros.
+-- An array that is 0 after its count is its counted prefix, padded; one whose count must be 0 is all zeros.
 module _ {a b k n : ℕ} {s : List ℕ} (h : Held k s) (c : Counted a b n s) where
   pub padded-back : b ≤ k → padded k (take n s) ≡ s
   unfolding padded
@@ -43,7 +43,7 @@ zeros-whole {n} {s} h c =
     let e : n ≡ 0 = omega arith in
     rw (← h .size) (sym (zeros-sound s (rw e at (c .after))))
 
--- What was padded stands at the front, and is counted: what is after it is 0.
+-- A padded array begins with what was padded, and is 0 after it.
 module _ (k n : ℕ) (s : List ℕ) (l : length s ≡ n) (h : n ≤ k) where
   padded-whole : padded k s ≡ s ++ replicate (k - length s) 0
   unfolding padded

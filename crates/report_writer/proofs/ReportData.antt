@@ -1,4 +1,4 @@
--- The data of a report: their lengths, that the puts lay them part by part, and that they are bytes.
+-- The data of a report: their lengths, the puts that lay them out part by part, and that they are bytes.
 use mathlib.Core.Path.{_≡_, refl}
 use mathlib.Core.List.{List, _∷_, _++_, append-assoc}
 use mathlib.Core.Bool.{Bool, true, false}
@@ -76,7 +76,7 @@ type-byte : (g : Bool) → typeOf g < 256
 type-byte true = omega arith
 type-byte false = omega arith
 
--- Bytes after a number's two.
+-- Bytes after the two of a number.
 number-bytes : (x : ℕ) (s : List ℕ) → Bytes s → Bytes (leBytes 2 x ++ s)
 number-bytes x s h = bytes-append (leBytes 2 x) s (bytes-leBytes 2 x) h
 

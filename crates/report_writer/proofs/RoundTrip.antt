@@ -1,5 +1,5 @@
--- What is written is read as the report; and what is read of at most eight reserved bytes can be written, and is
--- written as it was.
+-- A report comes back from its frame. One read with at most eight reserved bytes can be written, and gives the same
+-- frame if the state byte is at most `stateMax`.
 use mathlib.Core.Path.{_≡_, refl, sym, ap, _∙_}
 use mathlib.Core.List.{List, [], _∷_, _++_}
 use mathlib.Core.Bool.{Bool, true, false}
@@ -41,7 +41,7 @@ type-flag : (g : Bool) → isEngineering (typeOf g) ≡ g
 type-flag true = refl
 type-flag false = refl
 
--- A report that can be written: its data pass the checks, and are read as it.
+-- If a report can be written, its data pass the checks and are read as that report.
 module _ (r : Report) (t : TypedReport r) where
   data-passes : Writable r → Passes reportChecks (reportData r)
   unfolding reportData frontOf
@@ -83,7 +83,7 @@ module _ (r : Report) (t : TypedReport r) where
         read = rw (data-back v) at (read-complete Family.Report (reportData r) small (data-passes v));
       }
 
--- By the type: what is read can be written, with that type and that block.
+-- A report that is read can be written, with the same type and the same block.
 module _ (c : List ℕ) (t : ℕ) (b : List ℕ) (s : length (reserved b) ≤ 8) where
   abbrev read : Report
   read = reportBy (basicOf c) t b

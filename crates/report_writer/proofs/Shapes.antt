@@ -1,4 +1,4 @@
--- Report data that pass the checks: type, AA, the basic bytes with what is after them, 55, 00.
+-- Report data that pass the checks: type, AA, the basic bytes and what follows them, 55, 00.
 use mathlib.Core.Path.{_≡_, refl}
 use mathlib.Core.List.{List, [], _∷_, _++_}
 use mathlib.Core.Bool.{Bool, true, false, not, _||_}
@@ -48,7 +48,7 @@ shaped-passes t c nine known none fit =
       ),
     )
 
--- What is read of data, by their type.
+-- The two forms: type 02 with no block, or type 01 with a block that fits.
 pub data View (t : ℕ) (b : List ℕ) : Type 0 where
   plain : t ≡ 0x02 → b ≡ [] → View t b
   full : t ≡ 0x01 → Fits b → View t b
@@ -67,7 +67,7 @@ module _ (t : ℕ) (b : List ℕ) where
   view : knownType t ≡ true → nothingAfter t b ≡ true → blockFits t b ≡ true → View t b
   view k n h = view-by (eqb t 0x01) (eqb t 0x02) refl refl k n h
 
--- The first two bytes and the rest.
+-- The first two bytes and the rest are the string.
 pub two-front : (b : List ℕ) → 2 ≤ length b → getD b 0 0 ∷ getD b 1 0 ∷ drop 2 b ≡ b
 two-front [] h = absurd (omega arith)
 two-front (x ∷ []) h = absurd (omega arith)

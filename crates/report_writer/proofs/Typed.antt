@@ -1,5 +1,5 @@
--- What the types of a report's fields say: an energy is a byte, a distance two, and each array has its length and holds
--- bytes. From what owning a parameter of the type tells.
+-- Bounds from the types of a report's fields: an energy is one byte, a distance two, and each array has its length and
+-- holds bytes. They follow from owning a parameter of the type.
 use mathlib.Core.Path.{_≡_}
 use mathlib.Core.List.{List, [], _∷_, map}
 use Prim.Native.Nat.{ℕ, _<_}

@@ -1,4 +1,4 @@
--- Entries that are all 0, one by one.
+-- Whether all entries from a place on are 0.
 use mathlib.Core.Path.{_≡_}
 use mathlib.Core.List.{List}
 use mathlib.Core.Bool.{true, false}

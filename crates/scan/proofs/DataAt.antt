@@ -1,4 +1,4 @@
--- The scan after some data bytes: a law for each way.
+-- The scan after p of n data bytes: in the data, or in the tail.
 use mathlib.Core.Path.{_≡_}
 use Prim.Native.Nat.{ℕ, _≤_, _<_}
 use borrow.Author.Tests.{lt-ltb, le-ltb}

@@ -1,4 +1,4 @@
--- The test of a scan fails exactly where document 01 calls the scan out of range: it is reset there, and nowhere else.
+-- `wellFormed` fails exactly if document 01 calls the scan out of range. Then it is reset, and otherwise it is kept.
 use mathlib.Core.Path.{_≡_, refl, sym, _∙_}
 use mathlib.Core.Bool.{Bool, true, false, _||_, true≢false, and-false}
 use Prim.Native.Nat.{ℕ, _≤_}
@@ -24,7 +24,7 @@ module _ (limit : ℕ) (c : Scan) where
   unfit : ¬ InRange limit (c .len) → inRange limit (c .len) ≡ false
   unfit h = fails _ (λ e. h (range-true limit (c .len) .0 e))
 
-  -- Where a field is out of range the test fails.
+  -- If a field is out of range, the test fails.
   out-fails : OutOfRange limit c → wellFormed limit c ≡ false
   unfolding wellFormed
   out-fails (header-matched s l) = rw (s, lt-leb (c .matched) 3 l)
@@ -37,7 +37,7 @@ module _ (limit : ℕ) (c : Scan) where
   out-fails (data-position s n) = rw (s, le-ltb (c .pos) (c .len) (omega arith), and-false)
   out-fails (tail-position s n) = rw (s, ne-eqb (c .pos) (c .len) n, and-false, and-false)
 
-  -- Where none is, it holds.
+  -- If none is, it holds.
   module _ (inside : ¬ OutOfRange limit c) where
     fit : (¬ InRange limit (c .len) → OutOfRange limit c) → inRange limit (c .len) ≡ true
     fit h = holds _ (λ e. inside (h (λ r. true≢false (sym (range-true limit (c .len) .1 r) ∙ e))))

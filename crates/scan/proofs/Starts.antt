@@ -1,4 +1,4 @@
--- A byte that is tried as a new start: a law for each way.
+-- A byte tried as a new start: it begins a header, or is dropped.
 use mathlib.Core.Path.{_≡_, ap}
 use Prim.Native.Nat.{ℕ}
 use Rattle.wire.specs.Family.{startingWith}

@@ -1,4 +1,4 @@
--- What the calls of a session do, by the premises of the machine's rules.
+-- What the calls of a session do under the premises of the machine's rules.
 use mathlib.Core.Path.{_≡_, refl, sym, _∙_}
 use mathlib.Core.Logic.{_≢_}
 use mathlib.Core.Bool.{Bool, true, false, false≢true, _&&_}
@@ -45,7 +45,7 @@ idle-free s n = rw (awaited-none s n)
 pub closed-needs-open : (c : Command) → c ≢ EnableConfig → needsOpen Closed c ≡ true
 closed-needs-open c n = rw (named-apart c EnableConfig is-enable n)
 
--- A command that goes is past both tests.
+-- A command that may be sent passes the tests for 8 and 7.
 pub taken-passes : (s : Session) (c : Command) → Takes s c → (isBusy s ≡ false) × (needsOpen s c ≡ false)
 taken-passes s c enabling = (refl, refl)
 taken-passes s c (from-open d) = (refl, refl)
@@ -68,7 +68,7 @@ ends-after s t ok restarted = refl
 ends-after s t ok not-restarted = refl
 ends-after s t ok (other c b n) = other-ends c b n
 
--- The test of a frame: the word, then the kind.
+-- A frame passes the test exactly if it acknowledges the awaited word.
 pub word-awaited : (s : Session) (v : ℕ) → isWord (awaitedWord s) v ≡ true → Awaits s v
 word-awaited Closed v e = absurd (false≢true e)
 word-awaited Opening v e = rw (eqb-true v 0x00FF e) opening

@@ -1,4 +1,4 @@
--- What a run of one event says: the call is the one move, and each number of `send` has its cause.
+-- From runs of one event: each call is the machine's only move, and each number of `send` has its cause.
 use mathlib.Core.Path.{_≡_, refl, sym, _∙_, ap}
 use mathlib.Core.Logic.{_≢_}
 use mathlib.Core.List.{List, [], _∷_}
@@ -56,7 +56,7 @@ refused-number s c n q (not-open _ _ h) z = omega arith
 refused-number s c n q (unsupported _ _ _ k b) z = omega arith
 refused-number s c n q (short _ _ _ k b h) z = omega arith
 
--- A command is refused, with a number but 0, or sent, with 0.
+-- A command is refused, with a number other than 0, or sent, with 0.
 data Answered (s : Session) (c : Command) (n : ℕ) (q : Returned ℕ) : Type 0 where
   no : Refuses s c n q → Answered s c n q
   yes : q .number ≡ 0 → Sendable s c n → Answered s c n q

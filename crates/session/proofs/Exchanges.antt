@@ -1,5 +1,4 @@
--- What `EnableConfig` opens, `EndConfig` closes: conversations made of the machine's rules, and so what the calls
--- leave.
+-- `EnableConfig` opens a session and `EndConfig` closes it: by the machine's rules, and so by the calls.
 use mathlib.Core.Path.{refl, sym}
 use mathlib.Core.List.{List, [], _∷_}
 use mathlib.Core.Bool.{true}
@@ -20,13 +19,13 @@ use Rattle.session.specs.Machine.{Awaits, goes, ends, Conversation, here
 use Rattle.session.specs.Claims.{Success, OpensAndCloses}
 use Rattle.session.proofs.Moved.{any-run}
 
--- The responses to a command that goes, and to the frame that ends its wait.
+-- The responses to a command that is sent, and to the frame that ends its wait.
 abbrev answers : Command → List ℕ → Frame → List Response → List Response
 answers c out f rs =
     sent (accepted (length (commandFrame c))) (written out (commandFrame c))
     ∷ received (Receive.Ended (f .ack .ok)) ∷ rs
 
--- A command that goes, and the acknowledgement of its success, before other events.
+-- A command that is sent, and the acknowledgement of its success, before other events.
 exchanged : (s t u v : Session) (c : Command) (out : List ℕ) (f : Frame) (es : List Event) (rs : List Response)
     → Sendable s c (length out) → Leads c t → Awaits t (f .ack .word) → Success c f → Ends t true u
     → Conversation u es rs v → Conversation s (send c out ∷ frame f ∷ es) (answers c out f rs) v

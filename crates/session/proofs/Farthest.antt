@@ -15,12 +15,12 @@ use Rattle.session.specs.Machine.{Takes, enabling, from-open, Refuses, b
 use Rattle.session.specs.Machine.{numberAlone}
 use Rattle.session.specs.Claims.{SendCauses, FarthestSent}
 
--- A command with this word goes from open alone.
+-- A command with the word of `SetMaxGates` may be sent only from open.
 takes-open : (s : Session) (c : Command) → wordOf c ≡ 0x0060 → Takes s c → s ≡ Open
 takes-open s c e enabling = absurd (omega arith)
 takes-open s c e (from-open _) = refl
 
--- 2 is given to values that the module does not take, of a command that goes.
+-- Only a command that may be sent, with values that the module does not take, gets 2.
 two-refused : (s : Session) (c : Command) (k : ℕ) (q : Returned ℕ) → Refuses s c k q → q .number ≡ 2
     → Takes s c × (encodable c ≡ false)
 two-refused s c k q (busy _ _ _ w a) z = absurd (omega arith)

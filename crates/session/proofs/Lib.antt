@@ -1,14 +1,14 @@
--- Which command a command is, by its word.
+-- The three commands that a session treats specially.
 pub mod Which
--- What the calls do, by the machine's premises.
+-- What the calls do under the machine's premises.
 pub mod Calls
 -- The calls move as the machine does, and the machine leaves no choice.
 pub mod Moved
 -- A call is the one move of the machine, and each number of `send` has its cause.
 pub mod Caused
--- Farthest gates: 2 in an open session alone.
+-- A `SetMaxGates` in a session: when it gets 2.
 pub mod Farthest
--- What `EnableConfig` opens, `EndConfig` closes.
+-- `EnableConfig` opens a session and `EndConfig` closes it.
 pub mod Exchanges
 -- What `send` answers and leaves.
 pub mod SendTests

@@ -1,4 +1,4 @@
--- The calls move as the machine does, and the machine leaves no choice: a move is what the call does, and there is one.
+-- The calls move as the machine does, and the machine leaves no choice: an event has one move, which the call makes.
 use mathlib.Core.Path.{_≡_, refl, sym, _∙_}
 use mathlib.Core.Logic.{_≢_, _⊎_, inl, inr}
 use mathlib.Core.List.{List, [], _∷_}
@@ -61,7 +61,7 @@ record Move (s : Session) (e : Event) : Type 0 where
   pub answer : Response
   pub moves : Moves s e to answer
 
--- A command that goes leads somewhere.
+-- Every command leads to some session.
 pub record Lead (c : Command) : Type 0 where
   pub to : Session
   pub leads : Leads c to
@@ -74,7 +74,7 @@ lead c = go (named-decided c EnableConfig is-enable) (named-decided c EndConfig 
     go (inr n) (inl e) = rw e (record { to = Closing; leads = to-closing })
     go (inr n) (inr m) = record { to = Waiting c; leads = to-waiting c n m }
 
--- A command that goes is sent, or refused with 2 or 4.
+-- A command that may be sent is sent, or refused with 2 or 4.
 module _ (s : Session) (c : Command) (out : List ℕ) (k : Takes s c) where
   taken-moves : (good : Bool) → encodable c ≡ good → (room : Bool) → leb (length (commandFrame c)) (length out) ≡ room
       → Move s (send c out)
@@ -106,7 +106,7 @@ send-moves Open c out = taken Open c out (from-open c)
 send-moves (Waiting d) c out = awaited-moves (Waiting d) _ c out (waiting d)
 send-moves Closing c out = awaited-moves Closing _ c out closing
 
--- The awaited acknowledgement leads somewhere.
+-- The awaited acknowledgement leads to some session.
 record End (s : Session) (ok : Bool) : Type 0 where
   pub to : Session
   pub ended : Ends s ok to
@@ -160,7 +160,7 @@ move s (frame f) = frame-moves s f
 move s give-up = give-up-moves s (wait s)
 move s ask = ask-moves s (wait s)
 
--- So the call is a move, and any calls are a run, and the only one.
+-- So each call is a move, and any calls are the only conversation for their events.
 call-moves : (s : Session) (e : Event) → Moves s e (sessionCall s e .0) (sessionCall s e .1)
 call-moves s e =
     let m = move s e in

@@ -1,4 +1,4 @@
--- What `send` answers and leaves, by the test that a command fails first, if it fails one.
+-- What `send` answers and leaves, by the first test that the command fails, if any.
 use mathlib.Core.Path.{_≡_, refl}
 use mathlib.Core.List.{List}
 use mathlib.Core.Bool.{true, false}

@@ -1,4 +1,4 @@
--- The three commands that a session treats by themselves: a command is one of them exactly if it has its word.
+-- The three commands that a session treats specially: a command is one of them exactly if it has that one's word.
 use mathlib.Core.Path.{_≡_, refl, sym, _∙_, ap}
 use mathlib.Core.Logic.{_≢_, _⊎_, inl, inr}
 use mathlib.Core.Bool.{true, false, false≢true}
@@ -56,7 +56,7 @@ other-word c d o is-enable = o .enables
 other-word c d o is-end = o .closes
 other-word c d o is-restart = o .restarts
 
--- A command is one of the three, or has another word.
+-- A command is a given one of the three, or has another word.
 named : (c d : Command) → Special d → (c ≡ d) ⊎ (eqb (wordOf c) (wordOf d) ≡ false)
 named c d p = go (which c)
   where

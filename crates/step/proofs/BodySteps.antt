@@ -29,7 +29,7 @@ use Rattle.step.proofs.Follow.{Capped, Follows, follows-on, follows-end
 use Rattle.stream.proofs.Words.{range-true}
 use Rattle.step.proofs.HeadSteps.{word-grows}
 
--- What is after a header and a length n, with them; and more after it.
+-- A header, the length n, and the bytes d.
 abbrev sized : Kind → ℕ → List ℕ → List ℕ
 sized k n d = header k ++ (leBytes 2 n ++ d)
 
@@ -38,12 +38,12 @@ sized-more k n d t =
     append-assoc (header k) (leBytes 2 n ++ d) t ∙ ap (λ x. header k ++ x) (append-assoc (leBytes 2 n) d t)
 
 module _ (limit : ℕ) (st : Stats) (cap : Capped st) (buf : List ℕ) (b : ℕ) where
-  -- Among the data bytes, and in the tail: after a length n in range, of which the two bytes are read again as n.
+  -- Among the data bytes and in the tail, after a length n in range. Its two bytes are read back as n.
   module _ (k : Kind) (n : ℕ) (r : inRange limit n ≡ true) (limit-small : limit < 65536) where
     again : little (leBytes 2 n) ≡ n
     again = omega (arith, range-true limit n .0 r .1)
 
-    -- What is read after such a length.
+    -- With at most n data bytes, it is open and not whole.
     opens-data : (d : List ℕ) → length d ≤ n → opens limit (sized k n d) ≡ true
     opens-data d l = data-opens limit k (n % 256) (n / 256 % 256) d (rw again l) ∙ rw again r
 

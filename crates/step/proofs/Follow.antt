@@ -1,5 +1,5 @@
--- A parser's step follows the scanner's: it stands for the same pending string, ended the same frame and counted the
--- same pieces. One lemma for each thing that a byte can do.
+-- A parser's step follows the scanner's if it leaves the same bytes pending, ends the same frame and counts the same
+-- pieces. One lemma for each thing that a byte can do.
 use mathlib.Core.Path.{_≡_, refl, sym, ap, _∙_}
 use mathlib.Core.List.{List, [], _∷_, _++_}
 use mathlib.Core.Bool.{true, false}
@@ -31,7 +31,7 @@ use Rattle.scan.specs.declared.stats.Ended.{Ended}
 use Rattle.scan.specs.declared.stats.Ended.the-variants.{Frame, Nothing}
 use Rattle.scan.specs.declared.stats.Stepped.{Stepped}
 
--- No counter is past its largest number, which the counters' type says.
+-- No counter is above its maximum. The counters' type ensures this.
 pub record Capped (st : Stats) : Type 0 where
   pub frames : st .frames ≤ counterMax
   pub resyncs : st .resyncs ≤ counterMax
@@ -43,12 +43,12 @@ abbrev pub endedAs : Ended → List ℕ → Option (List ℕ)
 endedAs (Frame k n) buf = some (header k ++ (leBytes 2 n ++ (take n buf ++ tail k)))
 endedAs Nothing buf = none
 
--- Its length is one that the stream takes.
+-- Its length is at most `limit`.
 abbrev pub Fits : ℕ → Ended → Type 0
 Fits limit (Frame k n) = n ≤ limit
 Fits limit Nothing = Unit {0}
 
--- The step r, from the counters st and with the buffer left, does what the scanner's step x does.
+-- The step r, from the counters st, leaving the buffer buf, does what the scanner's step x does.
 pub record Follows (limit : ℕ) (r : Stepped) (st : Stats) (buf : List ℕ) (x : Scanner.Step) : Type 0 where
   pub order : wellFormed limit (r .scan) ≡ true
   pub pending : pendingOf (r .scan) buf ≡ x .pending
@@ -60,7 +60,7 @@ pub record Follows (limit : ℕ) (r : Stepped) (st : Stats) (buf : List ℕ) (x 
   pub dropped : r .stats .dropped ≡ bumped (st .dropped) (sum lost (x .closed))
 
 module _ (limit : ℕ) (buf : List ℕ) where
-  -- The byte goes on with what is pending.
+  -- The byte keeps what is pending open.
   pub follows-on : (c : Scan) (st : Stats) (p : List ℕ) (b : ℕ) → Capped st → wellFormed limit c ≡ true
       → pendingOf c buf ≡ p ++ (b ∷ []) → opens limit (p ++ (b ∷ [])) ≡ true → wholes limit (p ++ (b ∷ [])) ≡ false
       → Follows limit (continued c st) st buf (Scanner.step (link limit) p b)
@@ -117,7 +117,7 @@ module _ (limit : ℕ) (buf : List ℕ) where
   unfolding startOf
   follows-start st b cap = start-as st b (startingWith b) refl cap
 
-  -- The byte breaks what is pending, n bytes, and only it is tried as a new start.
+  -- The byte breaks the n pending bytes, and is itself tried as a new start.
   abandoned-capped : (st : Stats) (n : ℕ) → Capped st → Capped (abandoned st n)
   unfolding abandoned
   abandoned-capped st n cap = record {

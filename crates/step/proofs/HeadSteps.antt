@@ -27,12 +27,12 @@ use Rattle.scan.specs.declared.stats.Stats.{Stats}
 use Rattle.step.proofs.Follow.{Capped, Follows, follows-on, follows-start, follows-break}
 use Rattle.stream.proofs.Words.{range-true}
 
--- A word's next byte, after what came of it, is what came of it and more.
+-- The first m bytes of a word and its next byte are its first m + 1 bytes.
 pub word-grows : (w : List ℕ) (m b : ℕ) → m < length w → b ≡ getD w m 0 → take m w ++ (b ∷ []) ≡ take (suc m) w
 word-grows w m b l e = rw (take-suc w m 0 l, e)
 
 module _ (limit : ℕ) (st : Stats) (cap : Capped st) (buf : List ℕ) (b : ℕ) where
-  -- In a header, of which some bytes came.
+  -- In a header, after one or more of its bytes.
   module _ (k : Kind) (m : ℕ) (l : m < 3) where
     header-on : b ≡ getD (header k) (suc m) 0 → (x : Bool) → eqb (suc m) 3 ≡ x
         → Follows limit (cond x (continued (at Len k 0 0 0) st) (continued (at Header k (suc m + 1) 0 0) st)) st buf

@@ -5,11 +5,13 @@ pub mod StepOrder
 pub mod Turns
 -- The run of a slice, byte by byte and part by part.
 pub mod Runs
--- What it is for a step to follow the scanner's, and the ways in which it can.
+-- When a step follows the scanner's: a lemma for each thing that a byte can do.
 pub mod Follow
--- The steps in a header and in the length do; those among the data bytes and in a tail; so every step.
+-- The steps in a header and in the length follow it.
 pub mod HeadSteps
+-- So do those among the data bytes and in a tail.
 pub mod BodySteps
+-- So does every step of a well-formed scan.
 pub mod Steps
--- What a well-formed scan stands for waits for more.
+-- The pending bytes of a well-formed scan are open and not whole.
 pub mod Waiting

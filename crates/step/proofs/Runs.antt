@@ -21,7 +21,7 @@ use Rattle.scan.specs.declared.stats.Stepped.{Stepped}
 use Rattle.scan.specs.declared.stats.Scanned.{Scanned}
 use Rattle.step.proofs.StepOrder.{step-order}
 
--- The run r, after n bytes.
+-- The run r, with n bytes taken.
 abbrev counting : Run → ℕ → Run
 counting r n = runAt (r .scanned .scan) (r .scanned .stats) (r .scanned .ended) n (r .buf)
 
@@ -38,7 +38,7 @@ module _ (limit : ℕ) (c : Scan) (st : Stats) (buf bs : List ℕ) where
     unfolding runFrom runOf
     run-end l = rw (drop-of-length-le bs l) (ap (λ n. runAt c st Nothing n buf) (omega arith))
 
-    -- The byte number i, its step r and the buffer d that it leaves.
+    -- Byte i, its step r and the buffer d that it leaves.
     module _ (r : Stepped) (d : List ℕ) (inner : i < length bs) (e : r ≡ stepOf limit c st (getD bs i 0))
         (f : d ≡ stored c buf (getD bs i 0)) where
       pub run-next : after i (thenRun (r .ended) r d (runOf limit (r .scan) (r .stats) d (drop (suc i) bs)))
@@ -55,7 +55,7 @@ module _ (limit : ℕ) (c : Scan) (st : Stats) (buf bs : List ℕ) where
       taking-rest (Frame k n) q = rw q (rw q at run-next)
       taking-rest Nothing q = rw q (run-on q)
 
-      -- One byte is a part.
+      -- One byte's step is a part.
       pub step-partial : wellFormed limit c ≡ true → getD bs i 0 < 256
           → PartialRun limit c st buf bs i (takingOf r (i + 1)) d
       step-partial o l = record {
@@ -65,7 +65,7 @@ module _ (limit : ℕ) (c : Scan) (st : Stats) (buf bs : List ℕ) where
         rest = taking-rest (r .ended) refl;
       }
 
--- What is left of the bytes from number i on, run from here, comes to the whole run.
+-- The run from byte i on, after what came before, is the whole run.
 pub record Left (limit : ℕ) (whole : Run) (c : Scan) (st : Stats) (buf bs : List ℕ) (i : ℕ) : Type 0 where
   pub inside : i ≤ length bs
   pub order : wellFormed limit c ≡ true

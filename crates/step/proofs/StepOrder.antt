@@ -24,11 +24,11 @@ use Rattle.stream.proofs.Words.{range-true}
 use Rattle.step.proofs.Turns.{data-step, either}
 use Rattle.scan.proofs.Orders.{header-matched, tail-matched, tail-range, data-range, data-at-formed}
 
--- Not the last of four is below it.
+-- A number up to 3 that is not 3 is below 3.
 ne-le : (m : ℕ) → eqb m 3 ≡ false → m ≤ 3 → m < 3
 ne-le m e l = let ne : (m ≡ 3 → ⊥) = eqb-false m 3 e in omega arith
 
--- A step leaves a well-formed scan.
+-- The step r leaves a well-formed scan.
 abbrev Ordered : ℕ → Stepped → Type 0
 Ordered limit r = wellFormed limit (r .scan) ≡ true
 

@@ -1,4 +1,4 @@
--- What a byte does: a data byte's step in one term, and the step in a state that is known.
+-- What a byte does: a data byte's step in one term, and any step in a known state.
 use mathlib.Core.Path.{_≡_, refl}
 use mathlib.Core.List.{List}
 use mathlib.Core.Bool.{Bool, true, false, cond}
@@ -23,7 +23,7 @@ module _ (st : Stats) (k : Kind) (n p : ℕ) where
       go true = refl
       go false = refl
 
--- The step and the buffer, in a state that is known.
+-- The step and the buffer, in a known state.
 module _ (c : Scan) (s : State) (e : c .state ≡ s) (b : ℕ) where
   pub step-as : (limit : ℕ) (st : Stats)
       → stepIn limit s (c .kind) (c .matched) (c .len) (c .pos) st b ≡ stepOf limit c st b
@@ -44,7 +44,7 @@ stored-other c b buf n = go (c .state) refl
     go Data e = absurd (n e)
     go Tail e = refl
 
--- What holds of both ways holds of the way that a test picks.
+-- What holds of both branches holds of the one that a test picks.
 pub either : (P : Stepped → Type 0) (x : Bool) (r s : Stepped) → (x ≡ true → P r) → (x ≡ false → P s)
     → P (cond x r s)
 either P true r s f g = f refl

@@ -1,4 +1,4 @@
--- What a well-formed scan stands for is open and not whole, and is as long as the parser says.
+-- The pending bytes of a well-formed scan are open and not whole, and `unfinishedAt` is their number.
 use mathlib.Core.Path.{_≡_, refl, sym, ap, _∙_}
 use mathlib.Core.List.{List, [], _∷_, _++_, append-nil}
 use mathlib.Core.Bool.{true, and-eq-true-iff}
@@ -21,7 +21,7 @@ use Rattle.scan.specs.declared.State.the-variants.{Header, Len, Data, Tail}
 use Rattle.scan.specs.declared.Scan.{Scan}
 use Rattle.stream.proofs.Words.{range-true}
 
--- A whole frame is ten bytes longer than the length that it holds.
+-- A whole frame is ten bytes longer than the data length that it announces.
 whole-length : (limit : ℕ) (s : List ℕ) → Whole limit s → length s ≡ 10 + little (take 2 (drop 4 s))
 whole-length limit s w =
     let r : List ℕ = w .lo ∷ w .hi ∷ (w .held ++ tail (w .kind)) in
@@ -37,7 +37,7 @@ whole-length limit s w =
     ))
 
 module _ (limit : ℕ) where
-  -- Fewer bytes than ten, or than ten and the length that they hold, are no whole frame.
+  -- A string shorter than that is no whole frame.
   short : (s : List ℕ) → length s < 10 + little (take 2 (drop 4 s)) → ¬ Whole limit s
   short s l h = omega (arith, whole-length limit s h)
 

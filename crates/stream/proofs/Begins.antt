@@ -1,4 +1,4 @@
--- Which bytes begin a frame, and what framing a whole frame's data gives.
+-- Which bytes begin a frame, and that a whole frame is its data, framed.
 use mathlib.Core.Path.{_≡_, sym, ap, _∙_}
 use mathlib.Core.Logic.{_≢_, _↔_}
 use mathlib.Core.List.{List, [], _∷_, _++_}
@@ -31,7 +31,7 @@ stray-bytes limit b = (
     first : (k : Kind) → startingWith b ≡ Some k → Open limit (b ∷ [])
     first k e = opens-sound limit (b ∷ []) (rw (start-opens limit b k e) tt)
 
--- The two length bytes of a whole frame are those of the number of its data bytes.
+-- In a string of bytes, the two numbers after a header are bytes.
 length-bytes : (k : Kind) (lo hi : ℕ) (r : List ℕ) → Bytes (header k ++ (lo ∷ hi ∷ r)) → Bytes (lo ∷ hi ∷ [])
 length-bytes k lo hi r h =
     let s : List ℕ = lo ∷ hi ∷ r in
@@ -45,7 +45,7 @@ whole-spelled limit s bytes w =
     let again = ap (leBytes 2) (w .all-there) ∙ leBytes-little (w .lo ∷ w .hi ∷ []) two in
     w .spelled ∙ ap (λ l. header (w .kind) ++ (l ++ (w .held ++ tail (w .kind)))) (sym again)
 
--- So many data bytes two length bytes can say.
+-- Two length bytes announce fewer than 65,536 data bytes.
 pub whole-short : (limit : ℕ) (s : List ℕ) → Bytes s → (w : Whole limit s) → length (w .held) < 65536
 whole-short limit s bytes w =
     let two = length-bytes (w .kind) (w .lo) (w .hi) (w .held ++ tail (w .kind)) (rw (w .spelled) at bytes) in

@@ -1,5 +1,5 @@
--- Clean frames: the first byte begins a header, the second makes no length with it, and the others are quiet.
---   Quiet u   u is plain bytes, and here and there any byte with one below 3 after it
+-- Clean frames: the first byte begins a header, the second is above 2, and the others are quiet.
+--   Quiet u   u is made of plain bytes and of pairs: any byte, and then one below 3
 use mathlib.Core.Path.{_≡_, refl, _∙_}
 use mathlib.Core.List.{List, [], _∷_, _++_, append-nil}
 use Prim.Native.Nat.{ℕ, zero, suc, _≤_, _<_}
@@ -31,7 +31,7 @@ quiet-all : (d t : List ℕ) → Every Plain d → Quiet t → Quiet (d ++ t)
 quiet-all [] t h q = q
 quiet-all (b ∷ d) t h q = quiet-plain (h .0) (quiet-all d t (h .1) q)
 
--- After it what was idle is idle.
+-- A quiet string leaves an idle one idle.
 pub quiet-idle : (limit : ℕ) {u : List ℕ} → Quiet u → (p : List ℕ) → Idle limit p → Idle limit (rest (link limit) p u)
 quiet-idle limit quiet-end p i = i
 quiet-idle limit (quiet-plain {b} h q) p i =

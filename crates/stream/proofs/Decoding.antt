@@ -1,5 +1,4 @@
--- The decoding and the counting of the link, as the theory of the stream takes them. The laws stand here since the
--- records hold them.
+-- The link's decoding (for the crate `engine`) and counting (for `framing`), with their laws.
 --   decoding   whole frames, the answer that each gives, and "no frame"
 --   counting   what each piece adds to each counter
 use mathlib.Core.Path.{_≡_, refl}
@@ -23,7 +22,7 @@ use Rattle.engine.proofs.Lawful.{Decoding}
 use Rattle.stream.specs.Deliver.{Answer, holds, decodes, countedIn, payloadOf, delivered, nothing, isFrame}
 use Rattle.stream.specs.Deliver.{Counter, frames, resyncs, dropped, malformed, adds}
 
--- The answer for a frame that fails a check, and for one that fails none.
+-- A frame that fails a check gives the answer "no frame".
 answer-as : (o : MaybeCheck) (x : Frame) (f : List ℕ) → holds (frameIf o x .failed) ≡ false
     → let given = frameIf o x .frame in _≡_ {A = Answer} (countedIn (given .kind) 4 given, payloadOf given f) nothing
 answer-as (Maybe.Some c) x f e = refl
@@ -37,7 +36,7 @@ frame-is : (k : Kind) (d : List ℕ) → isFrame (countedIn (frameOf 10 k d .kin
 frame-is Family.Report d = refl
 frame-is Family.Command d = refl
 
--- A string that fails no check announces a family.
+-- A string that fails no check announces a kind, and so gives a frame.
 passed-as : (o : MaybeKind) (f : List ℕ) → family f ≡ o → holds (firstFailed (checksFor f) f) ≡ true
     → isFrame (countedIn (frameAs o (dataOf f) .kind) 4 (frameAs o (dataOf f)) .kind) ≡ true
 passed-as (Found.Some k) f q e = frame-is k (dataOf f)

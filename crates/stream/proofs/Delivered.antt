@@ -1,5 +1,5 @@
--- What a whole frame delivers: what its data are decoded as, with the payload where it stands in a buffer that the data
--- begin.
+-- What a whole frame delivers: what its data are decoded as. A payload's start is counted in a buffer that begins with
+-- the data.
 use mathlib.Core.Path.{_≡_, refl, sym, ap, _∙_}
 use mathlib.Core.List.{List, [], _∷_, _++_}
 use Prim.Native.Nat.{ℕ, zero, suc, _-_, _<_}
@@ -20,13 +20,13 @@ use Rattle.frame.specs.declared.Frame.{Frame}
 use Rattle.frame.specs.declared.CheckedFrame.{CheckedFrame}
 use Rattle.stream.specs.Deliver.{Answer, holds, decodes, countedIn, payloadOf, delivered}
 
--- What is left of a string after its first bytes, whatever follows the string.
+-- The part of the string d after its first n bytes, whatever follows d.
 left-of : (n : ℕ) (d t : List ℕ) → take (length d - n) (drop n (d ++ t)) ≡ drop n d
 left-of zero d t = let z : length d - 0 ≡ length d = omega arith in rw z (take-at d t (length d) refl)
 left-of (suc n) [] t = let z : 0 - suc n ≡ 0 = omega arith in rw z
 left-of (suc n) (b ∷ d) t = let z : suc (length d) - suc n ≡ length d - n = omega arith in rw z (left-of n d t)
 
--- The check that decoded data name.
+-- Decoding names the first check that fails.
 failed-as : (o : MaybeCheck) (f : Frame) → frameIf o f .failed ≡ o
 failed-as (Maybe.Some c) f = refl
 failed-as Maybe.None f = refl
@@ -46,7 +46,7 @@ abbrev pub answerIn : CheckedFrame → List ℕ → Answer
 answerIn x s = (x .frame, payloadOf (x .frame) s)
 
 module _ (d r : List ℕ) where
-  -- A frame's own bytes have the payload that the buffer has.
+  -- The payload is the same in the frame's own bytes and in the buffer.
   same-payload : (k : Kind) → payloadOf (frameOf 10 k d) (framed k d) ≡ payloadOf (frameOf 4 k d) (d ++ r)
   unfolding ackOf
   same-payload Report = refl

@@ -1,4 +1,4 @@
--- What the tests say of a string that begins with a header: it is read on after it.
+-- The tests of a string that begins with a header are `readsLength` of what follows it.
 use mathlib.Core.Path.{_≡_, refl}
 use mathlib.Core.List.{List, _++_}
 use mathlib.Core.Bool.{true, false}

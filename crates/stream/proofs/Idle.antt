@@ -1,5 +1,4 @@
--- Pending strings that await nothing, or a tail: a plain byte leaves another such, and the first byte of a header is
--- all that is pending after it.
+-- Idle strings, empty or a frame that lacks only bytes of its tail, and what is pending after one more byte.
 use mathlib.Core.Path.{_≡_, sym, _∙_, ap}
 use mathlib.Core.Logic.{_⊎_, inl, inr, ⊎-elim}
 use mathlib.Core.List.{List, [], _∷_, _++_}
@@ -67,7 +66,7 @@ pub tail-plain : (k : Kind) → Every Plain (tail k)
 tail-plain Report = (literal 0xF8 tt, (literal 0xF7 tt, (literal 0xF6 tt, (literal 0xF5 tt, tt))))
 tail-plain Command = (literal 0x04 tt, (literal 0x03 tt, (literal 0x02 tt, (literal 0x01 tt, tt))))
 
--- None of them begins a header.
+-- So none of them begins a header.
 apart : (j : Kind) (w : List ℕ) (m : ℕ) → Every Plain w → m < length w → eqb (first j) (getD w m 0) ≡ false
 apart j [] m h u = absurd (omega arith)
 apart Report (x ∷ w) zero h u = ne-eqb 0xF4 x (λ e. h .0 .0 (sym e))
@@ -82,13 +81,13 @@ header-apart j Report m u = apart j (drop 1 (header Report)) m (second-plain Rep
 header-apart j Command m u = apart j (drop 1 (header Command)) m (second-plain Command, others-plain Command) u
 
 module _ (limit : ℕ) where
-  -- What awaits nothing, or all of a tail but its first m bytes.
+  -- Empty, or a frame with only the first m bytes of its tail, m below 4.
   pub data Idle : List ℕ → Type 0 where
     empty : Idle []
     in-tail : {p : List ℕ} (k : Kind) (lo hi : ℕ) (d : List ℕ) (m : ℕ) → InRange limit (little (lo ∷ hi ∷ []))
         → length d ≡ little (lo ∷ hi ∷ []) → m < 4 → p ≡ header k ++ (lo ∷ hi ∷ (d ++ take m (tail k))) → Idle p
 
-  -- After it the first byte of a header is all that is pending.
+  -- After the string p, the first byte of a header is all that is pending.
   abbrev pub Ready : List ℕ → Type 0
   Ready p = (j : Kind) → step (link limit) p (first j) .pending ≡ first j ∷ []
 
@@ -107,7 +106,7 @@ module _ (limit : ℕ) where
   idle-ready {p} (in-tail k lo hi d m r l u e) = ready-if p (λ j.
       not-open limit _ (rw e (tail-goes-on limit k lo hi d m r l u (first j) ∙ tail-apart j k m u)))
 
-  -- A part of a header is broken by the first byte of any.
+  -- The first byte of any header breaks a part of a header.
   pub header-ready : (k : Kind) (m : ℕ) → m < 3 → Ready (take (suc m) (header k))
   header-ready k m u = ready-if (take (suc m) (header k)) (λ j.
       not-open limit _ (header-opens limit k m (first j) u ∙ header-apart j k m u))
@@ -117,7 +116,7 @@ module _ (limit : ℕ) where
   whole-as k lo hi d r l e =
       record { kind = k; lo = lo; hi = hi; held = d; in-range = r; all-there = l; spelled = e }
 
-  -- Where a byte goes on with it, it is the tail's next.
+  -- A byte that keeps such a string open is the next of the tail.
   module _ {p : List ℕ} (k : Kind) (lo hi : ℕ) (d : List ℕ) (m : ℕ) (r : InRange limit (little (lo ∷ hi ∷ [])))
       (l : length d ≡ little (lo ∷ hi ∷ [])) (u : m < 4)
       (e : p ≡ header k ++ (lo ∷ hi ∷ (d ++ take m (tail k)))) (c : ℕ) where
@@ -149,14 +148,14 @@ module _ (limit : ℕ) where
   pub idle-plain : (p : List ℕ) (c : ℕ) → Plain c → Idle p → Idle (step (link limit) p c .pending)
   idle-plain p c h i = does-plain h (does (link limit) p c) i
 
-  -- After the first byte of a header, a byte below 3 leaves nothing.
+  -- The first byte of a header and a byte below 3 are not open.
   pub second-apart : (k : Kind) (c : ℕ) → c < 3 → ¬ Open limit (first k ∷ c ∷ [])
   second-apart Report c h = not-open limit _ (header-opens limit Report 0 c (omega arith) ∙ ne-eqb c 0xF3 (λ e.
       absurd (omega arith)))
   second-apart Command c h = not-open limit _ (header-opens limit Command 0 c (omega arith) ∙ ne-eqb c 0xFC (λ e.
       absurd (omega arith)))
 
-  -- Any byte, and then one below 3.
+  -- Any byte, and then one below 3, leave an idle string.
   pub idle-pair : (p : List ℕ) (b c : ℕ) → c < 3 → Idle p → Idle (rest (link limit) p (b ∷ c ∷ []))
   idle-pair p b c h i = ⊎-elim
       (λ n. idle-plain (step (link limit) p b .pending) c (small-plain c h) (idle-plain p b n i))

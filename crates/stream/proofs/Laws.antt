@@ -1,4 +1,4 @@
--- The beginning of a string that may be cut short may be cut short too: of the test `opens`, piece by piece.
+-- If a string passes the test `opens`, so does each prefix of it. The proof goes part by part.
 use mathlib.Core.Path.{_≡_}
 use mathlib.Core.List.{List, [], _∷_, _++_}
 use mathlib.Core.Bool.{Bool, true}
@@ -15,7 +15,7 @@ use Rattle.framing.proofs.Tests.{T-and}
 use Rattle.stream.specs.Length.{inRange}
 use Rattle.stream.proofs.Scan.{after, atEnd, readsLength, reads, readsAs, opens}
 
--- What is left of a longer string is what is left of the string, and more.
+-- Dropping bytes of s ++ t drops those of s first, then of t.
 drop-append : (n : ℕ) (s t : List ℕ) → drop n (s ++ t) ≡ drop n s ++ drop (n - length s) t
 drop-append zero s t = let z : 0 - length s ≡ 0 = omega arith in rw z
 drop-append (suc n) [] t = let z : suc n - 0 ≡ suc n = omega arith in rw z
@@ -55,7 +55,7 @@ module _ (limit : ℕ) (k : Kind) where
   unfolding reads
   reads-prefix s t h = after-prefix (header k) (readsLength true limit k) length-prefix s t h
 
--- The same of the family that a first byte announces, if any.
+-- The same for the kind that the first byte announces, if any.
 module _ (limit : ℕ) where
   as-prefix : (o : MaybeKind) (s t : List ℕ) → T (readsAs true limit o (s ++ t)) → T (readsAs true limit o s)
   as-prefix (Some k) s t h = reads-prefix limit k s t h

@@ -8,30 +8,31 @@ pub mod Headers
 pub mod Words
 -- What one more byte makes of a string that waits.
 pub mod Steps
--- The tests are document 01's words, of open strings and of whole frames.
+-- The test for open strings agrees with document 01.
 pub mod Opens
+-- The test for whole frames does too.
 pub mod Wholes
--- The framing of these words, which the tests decide.
+-- The LD2410's framing, which the tests decide.
 pub mod Link
--- The decoding and the counting.
+-- The link's decoding and counting.
 pub mod Decoding
 -- What a whole frame delivers.
 pub mod Delivered
--- Which bytes begin a frame, and what framing a whole frame's data gives.
+-- Which bytes begin a frame, and that a whole frame is its data, framed.
 pub mod Begins
 -- Where a broken start ends.
 pub mod Traps
--- A byte F4 again and again.
+-- Bytes F4 in a row.
 pub mod Repeated
--- Pending strings that await nothing, or a tail.
+-- Pending strings that are empty or lack only bytes of a tail.
 pub mod Idle
 -- Clean frames, byte by byte.
 pub mod Clean
 -- How many data bytes a pending string still takes.
 pub mod Owing
--- Clean frames are found and delivered.
+-- Clean frames that begin late enough are found, and delivered if they decode.
 pub mod Recovery
--- So all that are sent late enough are.
+-- So of the frames sent, all such are delivered.
 pub mod Regained
 -- One byte less is not enough.
 pub mod Sooner

@@ -1,5 +1,5 @@
--- The LD2410's framing, over the largest length that the stream takes: the open strings and whole frames of document
--- 01's words, which the tests decide.
+-- The LD2410's framing, over the largest length `limit`: document 01's open strings and whole frames, which the tests
+-- decide.
 --   link limit   the framing, with its laws
 use mathlib.Core.Path.{_≡_, refl, sym, ap, _∙_}
 use mathlib.Core.List.{List, [], _∷_, _++_, append-nil, append-assoc}
@@ -26,7 +26,7 @@ announced-is : (k : Kind) (lo hi : ℕ) (r : List ℕ) → announced (header k +
 announced-is Report lo hi r = refl
 announced-is Command lo hi r = refl
 
--- How long a string is that has a header and a length.
+-- The length of a string that begins with a header and a length.
 size : (k : Kind) (lo hi : ℕ) (r s : List ℕ) → s ≡ header k ++ (lo ∷ hi ∷ r) → length s ≡ 6 + length r
 size k lo hi r s e = omega (arith, ap length e, length-append (header k) (lo ∷ hi ∷ r), header-length k)
 
@@ -56,7 +56,7 @@ module _ (limit : ℕ) where
       let all : Prefix (tail (w .kind)) (tail (w .kind)) = ([], append-nil (tail (w .kind))) in
       in-tail (w .kind) (w .lo) (w .hi) (w .held) (tail (w .kind)) (w .in-range) (w .all-there) all (w .spelled)
 
-  -- After a header and a length, an open string has at most the data bytes that this says, and a tail.
+  -- After a header and a length, an open string has at most as many data bytes as the length says, and a tail.
   module _ (s : List ℕ) (k : Kind) (lo hi : ℕ) (r : List ℕ) (e : s ≡ header k ++ (lo ∷ hi ∷ r)) where
     same : (j : Kind) (a b : ℕ) (d : List ℕ) → s ≡ header j ++ (a ∷ b ∷ d) → little (lo ∷ hi ∷ []) ≡ little (a ∷ b ∷ [])
     same j a b d q = sym (announced-is k lo hi r) ∙ ap announced (sym e ∙ q) ∙ announced-is j a b d

@@ -1,4 +1,4 @@
--- The test `opens` is document 01's words: a string passes exactly if it is open.
+-- The test `opens` agrees with document 01: a string passes exactly if it is open.
 use mathlib.Core.Path.{_≡_, refl}
 use mathlib.Core.Logic.{⊎-elim}
 use mathlib.Core.List.{List, [], _∷_, _++_, append-nil, append-assoc}

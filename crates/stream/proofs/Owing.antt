@@ -49,7 +49,7 @@ module _ (limit : ℕ) (small : limit ≤ 512) where
   idle-bound : {b : ℕ} {p : List ℕ} → Idle limit p → Bound b p
   idle-bound i = ready (idle-ready limit i)
 
-  -- After a header and a byte, one above 2 makes no length in range.
+  -- After a header and one length byte, a byte above 2 makes no length in range.
   length-ends : (k : Kind) (b c : ℕ) → 2 < c → ¬ Open limit ((header k ++ (b ∷ [])) ++ (c ∷ []))
   length-ends k b c h = not-open limit _ (length-opened limit k b c ∙ fails _ (λ e.
       let r = range-true limit (little (b ∷ c ∷ [])) .0 e in omega (arith, r .1)))
@@ -57,7 +57,7 @@ module _ (limit : ℕ) (small : limit ≤ 512) where
   length-ready : (k : Kind) (b : ℕ) → Ready limit (header k ++ (b ∷ []))
   length-ready k b = ready-if limit (header k ++ (b ∷ [])) (λ j. length-ends k b (first j) (first-high j))
 
-  -- What is pending is one of the three, and takes at most `limit` data bytes more.
+  -- Every pending string is one of the three, with `limit` for b.
   header-bound : (k : Kind) (p : List ℕ) (m : ℕ) → p ≡ take m (header k) → m ≤ 4 → 1 ≤ limit → Bound limit p
   header-bound k p zero e l h = rw e (idle-bound Idle.empty)
   header-bound k p (suc m) e l h = go (decLe m 2)
@@ -74,7 +74,7 @@ module _ (limit : ℕ) (small : limit ≤ 512) where
       go zero q = idle-bound (Idle.in-tail k lo hi d 0 r (omega arith) (omega arith) (e ∙ rw append-nil))
       go (suc n) q = owing k lo hi d n r (omega arith) (omega (arith, r .1)) e
 
-  -- The beginning of a word is so many bytes of it.
+  -- A prefix t of a word is its first `length t` bytes.
   prefix-take : (t w : List ℕ) → Prefix t w → (t ≡ take (length t) w) × (length t ≤ length w)
   prefix-take t w q = (
     sym (take-append-seam t (q .0)) ∙ ap (take (length t)) (q .1),
@@ -130,7 +130,7 @@ module _ (limit : ℕ) (small : limit ≤ 512) where
         rw (spelled limit f x) (subst (λ (l : List ℕ). Idle limit (rest (link limit) l (body limit f x)))
         (sym none) (quiet-idle limit (body-quiet limit f x small) [] Idle.empty))
 
-    -- A string that takes data bytes: those of the frame, and the rest of it is quiet.
+    -- A string that takes data bytes: it takes some of the frame, and the rest is quiet.
     module _ (j : Kind) (lo hi : ℕ) (d : List ℕ) (r : ℕ) (i : InRange limit (little (lo ∷ hi ∷ [])))
         (e : length d + suc r ≡ little (lo ∷ hi ∷ [])) where
       abbrev p : List ℕ

@@ -35,7 +35,7 @@ module _ (limit : ℕ) (f : List ℕ) (x : Clean limit f) where
   abbrev start : ℕ
   start = first (kind limit f x)
 
-  -- After a string that is ready the frame is a whole piece, whatever follows it.
+  -- After its first byte, the frame becomes a whole piece, whatever follows it.
   alone : (v : List ℕ) → from (link limit) (start ∷ []) (afterFirst limit f x ++ v) ≡ whole f ∷ from (link limit) [] v
   alone v =
       let one = step-on (link limit) [] start (first-waits limit (kind limit f x)) in
@@ -116,7 +116,7 @@ recovers limit small E p s fulfils calls bytes goes early c late f x v e ps d =
       anew = scanner-sound (link limit) [] v (nothing-waits (link limit));
     }
 
--- Whatever the stretch holds by then, it is the string before the frames.
+-- Whatever the stretch holds by then takes the place of the pending string p.
 pub found-in-stretch : (limit : ℕ) → limit ≤ 512 → {S : Type 0} (E : Engine S Answer Counter) (p : List ℕ) (s : S)
     → FoundInStretch limit E p s
 found-in-stretch limit small E p s calls more goes early c late f x v e ps d =

@@ -1,5 +1,5 @@
--- From what is recovered: of frames that are sent back to back, all that begin `limit` or more bytes later and decode
--- are delivered.
+-- `Recovers` implies `Regains`: of clean frames sent back to back, all that begin `limit` or more bytes later and
+-- decode are delivered.
 use mathlib.Core.Path.{_≡_, refl, sym, _∙_, ap}
 use mathlib.Core.List.{List, [], _∷_, _++_, map, append-nil}
 use Prim.Native.Nat.{ℕ, _%_, _/_, _≤_}

@@ -1,4 +1,4 @@
--- A byte F4 begins a frame, and does not go on with itself.
+-- F4 is open and not whole; F4 F4 is not open.
 use mathlib.Core.Path.{refl}
 use mathlib.Core.List.{[], _∷_}
 use Prim.Native.Nat.{ℕ}

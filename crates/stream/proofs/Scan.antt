@@ -1,8 +1,8 @@
--- The same by tests that compute. Read from the left, an open string is a whole frame that may be cut short anywhere:
+-- Tests that compute, for open strings and for whole frames. An open string is a whole frame that may be cut short:
 -- `cut` says whether it may.
---   after cut w next s   s begins with the word w, and what is after it passes `next`; where s ends within w, `cut`
---   reads cut limit k s    s is a frame of the family k, or, if `cut`, the beginning of one
---   opens, wholes         s is open; s is a whole frame: by the family that its first byte announces
+--   after cut w next s    s begins with the word w, and what follows passes `next`; if s ends within w, `cut` decides
+--   reads cut limit k s   s is a frame of the kind k, or, if `cut`, the beginning of one
+--   opens, wholes         s is open; s is a whole frame: by the kind that its first byte announces
 use mathlib.Core.List.{List, [], _∷_}
 use mathlib.Core.Bool.{Bool, true, false, _&&_}
 use Prim.Native.Nat.{ℕ}
@@ -24,7 +24,7 @@ abbrev pub atEnd : List ℕ → Bool
 atEnd [] = true
 atEnd (b ∷ s) = false
 
--- A length, that many data bytes, and the tail: of what is after a header.
+-- The test of what follows a header: a length, that many data bytes, and the tail.
 abbrev pub readsLength : Bool → ℕ → Kind → List ℕ → Bool
 readsLength cut limit k [] = cut
 readsLength cut limit k (lo ∷ []) = cut

@@ -1,4 +1,4 @@
--- A frame that begins one byte sooner, and is lost: its first byte is the last data byte of what was pending.
+-- A frame that begins one byte too soon is lost: its first byte becomes the last data byte of what was pending.
 use mathlib.Core.Path.{_≡_, refl, sym, _∙_, ap, subst}
 use mathlib.Core.Logic.{_≢_, ⊎-elim}
 use mathlib.Core.List.{List, [], _∷_, _++_, append-nil, append-assoc, cons≢nil}
@@ -30,7 +30,7 @@ use Rattle.stream.proofs.Clean.{Quiet, quiet-end, quiet-plain, quiet-pa
 use Rattle.stream.proofs.Clean as Clean
 use Rattle.stream.proofs.Regained.{sendable-clean}
 
--- No frame ends where one would that begins within the first piece.
+-- If the first piece is a broken start, no frame that begins within it is found.
 first-piece : (s f : List ℕ) (ps qs : List Piece) (n : ℕ) → ps ≡ broken s ∷ qs → 0 < n → n < length s
     → ¬ EndsAt ps (n + length f) f
 first-piece s f ps qs n e h l x = go (x .before) (x .after) (sym e ∙ x .split) (x .place)
@@ -63,7 +63,7 @@ module _ (limit : ℕ) where
       (first-waits limit (x .0)) (second-apart limit (x .0) c h)) ∙ plain-silent c u (small-plain c h)))
       (plain-or-first b)
 
-  -- Of a quiet string nothing is delivered.
+  -- A quiet string delivers nothing.
   silent : {u : List ℕ} → Quiet u → answered (from (link limit) [] u) ≡ []
   silent quiet-end = refl
   silent (quiet-plain {b} {u} h q) = plain-silent b u h ∙ silent q
@@ -90,7 +90,7 @@ module _ (limit : ℕ) (large : 13 ≤ limit) (small : limit ≤ 512) where
   abbrev short : List ℕ
   short = framed Report zeros
 
-  -- What is pending, the frame that comes, and what comes after it.
+  -- `begun` is what is pending; `input g` is that, the short frame, and g.
   abbrev begun : List ℕ
   begun = header Report ++ (lo ∷ hi ∷ [])
 
@@ -118,7 +118,7 @@ module _ (limit : ℕ) (large : 13 ≤ limit) (small : limit ≤ 512) where
   short-length =
       omega (arith, ap length (append-nil short), framed-length Report zeros, length-replicate {A = ℕ} (limit - 11) 0)
 
-  -- What came before the next frame's second byte is one broken start.
+  -- All bytes before the second of the next frame f are one broken start.
   module _ (f : List ℕ) (x : Clean limit f) (v : List ℕ) where
     abbrev k : Kind
     k = kind limit f x

@@ -26,7 +26,7 @@ word-next cut [] next m b l = absurd (omega arith)
 word-next cut (x ∷ w) next zero b l = refl
 word-next cut (x ∷ w) next (suc m) b l = rw (eq-eqb x x refl) (word-next cut w next m b (omega arith))
 
--- A word that may be cut may be missing; one that may not may not.
+-- At a string's end, a word that may be cut may be missing; others may not.
 word-cut : (w : List ℕ) (next : List ℕ → Bool) → next [] ≡ true → after true w next [] ≡ true
 word-cut [] next e = e
 word-cut (x ∷ w) next e = refl
@@ -52,7 +52,7 @@ tail-complete : (cut : Bool) (k : Kind) → after cut (tail k) atEnd (tail k) �
 tail-complete cut Report = refl
 tail-complete cut Command = refl
 
--- The byte that announces a family is its header's first.
+-- The byte that announces a kind is the first of its header.
 pub starting-sound : (b : ℕ) (k : Kind) → startingWith b ≡ Some k → b ≡ getD (header k) 0 0
 starting-sound b k e = go (eqb b 0xF4) refl (eqb b 0xFD) refl e
   where

@@ -21,14 +21,14 @@ use Rattle.stream.proofs.Words.{fails, range-true}
 use Rattle.stream.proofs.Steps.{length-not-whole, data-opens, tail-opens}
 use Rattle.stream.proofs.Link.{link, is-open, not-open, not-whole, open-prefix, whole-ends}
 
--- A string after a header is not empty.
+-- A string that begins with a header is not empty.
 not-empty : (k : Kind) (r : List ℕ) → header k ++ r ≢ []
 not-empty k r e =
     let z : length (header k ++ r) ≡ 0 = rw e in
     absurd (omega (arith, header-length k, length-append (header k) r))
 
 module _ (limit : ℕ) where
-  -- A string that a byte continues, and that the byte c does not, is a broken start before c.
+  -- A string that is open with b added, but not with c, is a broken start before c.
   breaks : (s : List ℕ) (b c : ℕ) (t : List ℕ) (ps : List Piece) → s ≢ [] → Open limit (s ++ (b ∷ []))
       → ¬ Open limit (s ++ (c ∷ [])) → Divides (link limit) (c ∷ t) ps
       → Divides (link limit) (s ++ (c ∷ t)) (broken s ∷ ps)
@@ -52,7 +52,7 @@ module _ (limit : ℕ) where
         ≡ header k ++ (lo ∷ hi ∷ (d ++ (take m (tail k) ++ (b ∷ []))))
     tail-spelled b = simp append-assoc
 
-    -- All the data bytes and m of the tail's go on with the tail's next byte, and with no other.
+    -- After all the data bytes and m bytes of the tail, only the tail's next byte keeps the string open.
     pub tail-goes-on : (b : ℕ)
         → opens limit ((header k ++ (lo ∷ hi ∷ (d ++ take m (tail k)))) ++ (b ∷ [])) ≡ eqb b (getD (tail k) m 0)
     tail-goes-on b = rw (tail-spelled b) (tail-opens limit k lo hi d l (range-true limit _ .1 r) m b u)

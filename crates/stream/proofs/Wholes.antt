@@ -1,4 +1,4 @@
--- The test `wholes` is document 01's words: a string passes exactly if it is a whole frame.
+-- The test `wholes` agrees with document 01: a string passes exactly if it is a whole frame.
 use mathlib.Core.Path.{_≡_, ap}
 use mathlib.Core.Logic.{⊎-elim}
 use mathlib.Core.List.{List, [], _∷_, _++_}
@@ -22,7 +22,7 @@ use Rattle.stream.proofs.Words.{after-sound, tail-sound, range-true}
 use Rattle.stream.proofs.Steps.{tail-whole}
 
 module _ (limit : ℕ) (k : Kind) where
-  -- A complete tail stands after all the data bytes.
+  -- If exactly the tail follows the data bytes, the string is a whole frame.
   frame-sound : (lo hi : ℕ) (r : List ℕ) → InRange limit (little (lo ∷ hi ∷ []))
       → drop (little (lo ∷ hi ∷ [])) r ≡ tail k → Whole limit (header k ++ (lo ∷ hi ∷ r))
   frame-sound lo hi r n e =

@@ -1,4 +1,4 @@
--- What the tests say of a string: where it ends within a word or goes on after it, and a length in range.
+-- What the tests say of a string that ends within a word, or goes on after it, and of a length.
 use mathlib.Core.Path.{_≡_, refl, ap, _∙_}
 use mathlib.Core.Logic.{_↔_, _⊎_, inl, inr, ⊎-elim}
 use mathlib.Core.List.{List, [], _∷_, _++_, append-nil}
@@ -28,12 +28,12 @@ after-sound cut (x ∷ w) next (b ∷ s) h =
     ⊎-elim (λ q. inl (q .0, prefix-cons b x s w e (q .1))) (λ q. inr (q .0, let r = q .1 in cc, q .2))
     (after-sound cut w next s (p .1))
 
--- Nothing after a string is the empty string.
+-- A string that passes `atEnd` is empty.
 at-end-sound : (r : List ℕ) → T (atEnd r) → r ≡ []
 at-end-sound [] h = refl
 at-end-sound (b ∷ r) h = absurd h
 
--- A tail is there in part, if it may be cut, or as a whole.
+-- A string that passes for a tail is all of it, or a prefix if it may be cut.
 pub tail-sound : (cut : Bool) (k : Kind) (t : List ℕ) → T (after cut (tail k) atEnd t)
     → (T cut × Prefix t (tail k)) ⊎ (t ≡ tail k)
 tail-sound cut k t h = ⊎-elim inl
@@ -45,7 +45,7 @@ pub fails : (b : Bool) → (b ≡ true → ⊥) → b ≡ false
 fails true h = absurd (h refl)
 fails false h = refl
 
--- A length in range, as a test and as a fact.
+-- The test `inRange` passes exactly if the length is in range.
 pub range-true : (limit n : ℕ) → inRange limit n ≡ true ↔ InRange limit n
 range-true limit n = (
   λ e. let p = and-eq-true-iff _ _ .0 e in (leb-true 2 n (p .0), leb-true n limit (p .1)),

@@ -11,14 +11,14 @@ use Rattle.target_state.specs.declared.TargetState.the-variants.{None, M
 use Rattle.target_state.specs.declared.TargetState.the-variants.{CalibrationRunning, CalibrationDone}
 use Rattle.target_state.specs.declared.TargetState.the-variants.{CalibrationFailed}
 
--- What is no 0, 1 or 2 in the two lowest bits is both.
+-- Lowest bits other than 0, 1 and 2 mean both targets.
 bits-both : (n : ℕ) → 3 ≤ n → byBits n ≡ Both
 bits-both zero h = absurd (omega arith)
 bits-both (suc zero) h = absurd (omega arith)
 bits-both (suc (suc zero)) h = absurd (omega arith)
 bits-both (suc (suc (suc n))) h = refl
 
--- Of every byte but the three of a calibration the two lowest bits count.
+-- For every byte but the three of calibration, the two lowest bits decide.
 state-bits : (b : ℕ) → (Calibrating b → ⊥) → stateOf b ≡ byBits (b % 4)
 unfolding stateOf
 state-bits b h =
@@ -38,7 +38,7 @@ state-byte CalibrationRunning = refl
 state-byte CalibrationDone = refl
 state-byte CalibrationFailed = refl
 
--- The byte of a state is at most the largest, and a byte up to it is the byte of its state.
+-- The byte of a state is at most `stateMax`, and a byte up to `stateMax` is the byte of its state.
 pub byte-most : (t : TargetState) → byteOf t ≤ stateMax
 byte-most None = omega arith
 byte-most Moving = omega arith
@@ -59,7 +59,7 @@ byte-kept (suc (suc (suc (suc (suc zero))))) h = refl
 byte-kept (suc (suc (suc (suc (suc (suc zero)))))) h = refl
 byte-kept (suc (suc (suc (suc (suc (suc (suc b))))))) h = absurd (omega arith)
 
--- A state whose byte is one of the three of a calibration has no target.
+-- A state of calibration has no target.
 no-target : (t : TargetState) → 4 ≤ byteOf t → (movingOf t ≡ false) × (stationaryOf t ≡ false)
 no-target None h = absurd (omega arith)
 no-target Moving h = absurd (omega arith)
@@ -80,7 +80,7 @@ calibration b = record {
   old = state-bits b;
 }
 
--- What the two conversions have to show.
+-- What the contracts of the two conversions promise.
 abbrev Decoded : ℕ → TargetState → Type 0
 Decoded b t = (t ≡ stateOf b) × ((b ≤ stateMax → byteOf t ≡ b) × Calibration b t)
 

@@ -1,5 +1,5 @@
--- An answer that a truth value chooses of two: where it is not the one, it tells that it is the other. That two answers
--- differ is said by 0 ≡ 1, which `cc` proves of two constructors.
+-- A truth value chooses one of two answers: a result that differs from one of them shows the truth value. That two
+-- answers differ is stated by 0 ≡ 1, which `cc` proves of two constructors.
 use mathlib.Core.Path.{_≡_, refl, sym, _∙_}
 use mathlib.Core.Bool.{Bool, true, false, cond}
 use Prim.Native.Nat.{ℕ}
@@ -16,6 +16,6 @@ pub cond-false : {A : Type 0} (t : Bool) (x y : A) {z : A} → cond t x y ≡ z 
 cond-false true x y e h = let z = h e in absurd (omega arith)
 cond-false false x y e h = refl
 
--- For a need, whose search finds an answer o that the code got: it is x by the contract, and y by the test.
+-- For the search in a need, which finds the code's answer o: it is x by the contract, and y by the test.
 pub answer-told : {A : Type 0} (x y o : A) → o ≡ x → o ≡ y → x ≡ y
 answer-told x y o e q = sym e ∙ q

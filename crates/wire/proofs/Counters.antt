@@ -1,10 +1,10 @@
--- Counters that stop at a max, whatever it is.
+-- Counters that stop at a maximum.
 use mathlib.Core.Path.{_≡_}
 use Prim.Native.Nat.{ℕ, _+_, _≤_, min}
 use native.Mathlib.Omega.{arith}
 use Rattle.wire.specs.Counter.{counterMax, bumped}
 
--- Counted up twice is counted up by the sum.
+-- To count m and then n is to count their sum.
 pub capped-append : (max c m n : ℕ) → min (min (c + m) max + n) max ≡ min (c + (m + n)) max
 capped-append max c m n = omega arith
 

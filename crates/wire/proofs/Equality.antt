@@ -1,4 +1,4 @@
--- Two byte strings are the same exactly if `sameBytes` says so.
+-- Two byte strings are the same exactly if `sameBytes` is true.
 use mathlib.Core.Path.{_≡_, refl}
 use mathlib.Core.List.{List, [], _∷_}
 use mathlib.Core.Bool.{Bool, true, false, and-eq-true-iff}

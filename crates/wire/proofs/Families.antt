@@ -1,4 +1,4 @@
--- The families' headers and tails, and which family four bytes are the header of.
+-- The headers and tails of the two kinds, and the kind whose header four bytes are.
 use mathlib.Core.Path.{_≡_, refl}
 use mathlib.Core.List.{List}
 use mathlib.Core.Bool.{Bool, true, false, cond}
@@ -35,7 +35,7 @@ module _ (s : List ℕ) where
   unfolding headerOf
   header-none e f = rw (e, f)
 
-  -- The family that is found has the header.
+  -- If a kind is found, the bytes are its header.
   found-sound : (k : Kind) (a b : Bool) → sameBytes s (header Report) ≡ a → sameBytes s (header Command) ≡ b
       → cond a (Some Report) (cond b (Some Command) None) ≡ Some k → s ≡ header k
   found-sound k true b p q e = let z : Report ≡ k = cc in rw (← z) (same-sound s (header Report) p)

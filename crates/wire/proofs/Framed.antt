@@ -1,5 +1,5 @@
--- A frame put together and taken apart: what stands where in `framed k d`, and that a byte string with a header, as
--- many bytes as it says and the tail is the frame around these bytes.
+-- A frame put together and taken apart: where the parts of `framed k d` are. And a byte string of a header, a length,
+-- that many bytes and the tail is the frame around these bytes.
 use mathlib.Core.Path.{_≡_, refl, sym}
 use mathlib.Core.List.{List, _++_}
 use Prim.Native.Nat.{ℕ, _+_, _≤_, _<_}
@@ -37,7 +37,7 @@ module _ (k : Kind) (d : List ℕ) where
   pub framed-tail : drop (6 + length d) (framed k d) ≡ tail k
   framed-tail = rw (← drop-drop (length d) 6 (framed k d), framed-data) (drop-at d (tail k) (length d) refl)
 
-  -- A length that two bytes hold.
+  -- If the length fits two bytes.
   module _ (small : length d < 65536) where
     pub framed-announced : little (take 2 (drop 4 (framed k d))) ≡ length d
     framed-announced = rw (framed-rest k d) (little-two (length d) small)
@@ -45,7 +45,7 @@ module _ (k : Kind) (d : List ℕ) where
     pub framed-within : take (little (take 2 (drop 4 (framed k d)))) (drop 6 (framed k d)) ≡ d
     framed-within = rw (framed-announced, framed-data) (take-at d (tail k) (length d) refl)
 
--- The frame of bytes is one of bytes.
+-- The frame around bytes is a string of bytes.
 header-bytes : (k : Kind) → Bytes (header k)
 header-bytes Report = (omega arith, (omega arith, (omega arith, (omega arith, tt))))
 header-bytes Command = (omega arith, (omega arith, (omega arith, (omega arith, tt))))
@@ -61,7 +61,7 @@ framed-bytes k d h =
     (bytes-append (leBytes 2 (length d)) (d ++ tail k) (bytes-leBytes 2 (length d))
     (bytes-append d (tail k) h (tail-bytes k)))
 
--- Taken apart: the header is the family's, and the tail stands after as many bytes as the string says.
+-- Taken apart: a string with the header of k, and with the tail of k after as many bytes as its length says.
 module _ (k : Kind) (s : List ℕ) where
   abbrev says : ℕ
   says = little (take 2 (drop 4 s))

@@ -1,15 +1,15 @@
 -- Laws about the definitions, which the proofs of this crate and of the crates above cite.
--- An answer that a truth value chooses tells the truth value; and an answer that the code got.
+-- An answer shows the truth value that chose it.
 pub mod Conditions
--- The families' headers.
+-- The headers and tails of the two kinds.
 pub mod Families
--- Numbers on the wire: where they are, and where they are missing.
+-- Numbers on the wire: all their bytes are there, or some are missing.
 pub mod Numbers
--- Counters that stop at a max.
+-- Counters that stop at a maximum.
 pub mod Counters
 -- Two byte strings are the same, or differ.
 pub mod Equality
--- Copies of a prefix.
+-- Copies of a byte string into another, by how much of it fits.
 pub mod Prefixes
 -- Strings of bytes, and the bytes of a number.
 pub mod Bytes

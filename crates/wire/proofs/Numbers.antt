@@ -1,4 +1,4 @@
--- Numbers on the wire, at any width: the bytes are all there, and are the number; or some are missing.
+-- Numbers on the wire, at any width: all the bytes are there and make the number, or some are missing.
 use mathlib.Core.Path.{_≡_, refl, sym, _∙_}
 use mathlib.Core.List.{List, [], _∷_, _++_}
 use mathlib.Core.Bool.{Bool, true, false, cond}
@@ -19,17 +19,17 @@ use Rattle.wire.specs.declared.number.MaybeU16.the-variants as U16
 use Rattle.wire.specs.declared.number.MaybeU32.{MaybeU32}
 use Rattle.wire.specs.declared.number.MaybeU32.the-variants as U32
 
--- The n bytes of s from place i are all there, and are the number x.
+-- The n bytes of s from place i on are all there, and make the number x.
 pub record There (n : ℕ) (s : List ℕ) (i x : ℕ) : Type 0 where
   pub inside : i + n ≤ length s
   pub value : x ≡ little (take n (drop i s))
 
--- The number of a string, and of a string after it.
+-- The number that two joined strings make.
 pub little-append : (a b : List ℕ) → little (a ++ b) ≡ little a + 256 ^ length a * little b
 little-append [] b = omega arith
 little-append (x ∷ a) b = rw (pow-suc 256 (length a)) (omega (arith, little-append a b))
 
--- Two numbers side by side are one.
+-- Two numbers side by side make one.
 pub there-append : (m n : ℕ) (s : List ℕ) (i x y : ℕ) → There m s i x → There n s (i + m) y
     → There (m + n) s i (x + 256 ^ m * y)
 there-append m n s i x y h k =
@@ -53,7 +53,7 @@ there-one s i h = record { inside = omega arith; value = rw (drop-cons s i 0 h) 
 pub there-byte : (s : List ℕ) (i : ℕ) {x : ℕ} → There 1 s i x → x ≡ getD s i 0
 there-byte s i h = h .value ∙ sym (there-one s i (omega arith) .value)
 
--- The widths that the code reads: of each, how many bytes, the answer that it gives, and the answer's two variants.
+-- The widths that the code reads; for each, how many bytes it has, the type of the answer, and its two variants.
 pub data Width : Type 0 where
   one : Width
   two : Width
@@ -84,7 +84,7 @@ readAt one s i = byteAt s i
 readAt two s i = le16At s i
 readAt four s i = le32At s i
 
--- The two variants differ, and what the first holds is told by it.
+-- The first variant determines the number in it, and the two variants differ.
 there-injective : (w : Width) (x y : ℕ) → there w x ≡ there w y → x ≡ y
 there-injective one x y e = cc
 there-injective two x y e = cc
@@ -95,7 +95,7 @@ there-apart one x e = cc
 there-apart two x e = cc
 there-apart four x e = cc
 
--- The answer at a width is chosen by whether the bytes are all there.
+-- Whether the bytes are all there chooses the answer at a width.
 answered-cond : (w : Width) (t : Bool) (x : ℕ)
     → answered (there w) (missing w) (cond t (some x) none) ≡ cond t (there w x) (missing w)
 answered-cond w true x = refl
@@ -115,7 +115,7 @@ module _ (w : Width) (s : List ℕ) (i : ℕ) where
   read-cond : readAt w s i ≡ cond inside (there w value) (missing w)
   read-cond = read-answered ∙ answered-cond w inside value
 
-  -- What is read where they are there, and where some are missing; and what the answer says of them.
+  -- The answer if all bytes are there, and if some are missing; and what each answer says of the bytes.
   pub read-there : {x : ℕ} → There (size w) s i x → readAt w s i ≡ there w x
   read-there h = read-cond ∙ rw (le-leb (i + size w) (length s) (h .inside), h .value)
 
@@ -134,8 +134,8 @@ module _ (w : Width) (s : List ℕ) (i : ℕ) where
       leb-false (i + size w) (length s)
       (cond-false inside (there w value) (missing w) (sym read-cond ∙ e) (there-apart w value))
 
--- The same for a need, whose search finds the code's answer o and what it is: where a number among n bytes is missing,
--- there are fewer than n; and where it is there, so are those before it.
+-- The same for the search in a need, which finds the code's answer o: if a number within n bytes is missing, there are
+-- fewer than n; if one that ends n bytes in or later is there, there are at least n.
 pub read-short : (w : Width) (s : List ℕ) (i n : ℕ) (o : Answer w) → o ≡ missing w → o ≡ readAt w s i
     → leb (i + size w) n ≡ true → length s < n
 read-short w s i n o e q t =
@@ -150,11 +150,11 @@ read-long w s i n o x e q t =
     let wanted = leb-true n (i + size w) t in
     omega arith
 
--- A byte that was read is the one that stands there.
+-- A byte that was read is the byte at that place.
 pub byte-is : (s : List ℕ) (i : ℕ) {x : ℕ} → byteAt s i ≡ U8.Some x → x ≡ getD s i 0
 byte-is s i e = there-byte s i (read-some one s i e)
 
--- A number of two halves is there where both are, and missing where one is.
+-- A number of two halves is there if both are, and missing if one is.
 module _ (w v : Width) (halved : size v ≡ size w + size w) (s : List ℕ) (i : ℕ) where
   pub first-missing : readAt w s i ≡ missing w → missing v ≡ readAt v s i
   first-missing e = let gone = read-none w s i e in sym (read-missing v s i (omega arith))

@@ -1,4 +1,4 @@
--- Copies of a byte string into another: the cases of how much fits.
+-- Copies of a byte string into another, by how much of it fits.
 use mathlib.Core.Path.{_≡_, _∙_}
 use mathlib.Core.List.{List, [], _∷_, append-nil}
 use Prim.Native.Nat.{ℕ, zero, suc, _+_, _-_, _≤_, _<_, min}
@@ -12,7 +12,7 @@ use Rattle.wire.specs.Prefix.{over, pasted, prefixed, padded}
 min-suc : (m n : ℕ) → min (suc m) (suc n) ≡ suc (min m n)
 min-suc m n = omega arith
 
--- No byte copied, and one more.
+-- No byte is copied; and one more is.
 pub over-nil : (d : List ℕ) (i : ℕ) (s : List ℕ) → d ≡ over d i s 0
 unfolding over
 over-nil d i s = paste-zero d i s
@@ -22,12 +22,12 @@ pub over-more : (d : List ℕ) (i : ℕ) (s : List ℕ) (n : ℕ) → i + n < le
 unfolding over
 over-more d i s n h k = rw (add-one n) (paste-suc d i s n 0 h k)
 
--- One more at the front.
+-- One more, in a copy to the front.
 pub front-more : (d s : List ℕ) (n : ℕ) → n < length d → n < length s
     → set (over d 0 s n) n (getD s n 0) ≡ over d 0 s (n + 1)
 front-more d s n h k = simp zero-add at (over-more d 0 s n (omega arith) k)
 
--- As many as fit are copied; where there is no place, none.
+-- As many as fit are copied; none if the place is past the end.
 pub pasted-over : (d : List ℕ) (i : ℕ) (s : List ℕ) (n : ℕ) → n ≡ min (length d - i) (length s)
     → over d i s n ≡ pasted d i s
 unfolding pasted
@@ -36,7 +36,7 @@ pasted-over d i s n e = rw e
 pub pasted-nil : (d : List ℕ) (i : ℕ) (s : List ℕ) → length d ≤ i → d ≡ pasted d i s
 pasted-nil d i s h = over-nil d i s ∙ pasted-over d i s 0 (omega arith)
 
--- As many bytes as fit are as many as `take` takes, and what is after them is what `drop` leaves.
+-- `take` and `drop` stop at the end of the list.
 pub take-min : (m : ℕ) (s : List ℕ) → take (min m (length s)) s ≡ take m s
 take-min m [] = simp take-nil
 take-min zero (b ∷ s) = let z : min 0 (suc (length s)) ≡ 0 = omega arith in rw z
@@ -61,7 +61,7 @@ pub prefixed-zeros : (n : ℕ) (s : List ℕ) → prefixed (replicate n 0) s ≡
 unfolding prefixed padded
 prefixed-zeros n s = rw (length-replicate {A = ℕ} n 0, drop-replicate (length s) n)
 
--- A copy that fills the place it is made to.
+-- A copy that fills the whole string that it is made into.
 pub prefixed-full : (d s : List ℕ) → length d ≤ length s → prefixed d s ≡ take (length d) s
 unfolding prefixed
 prefixed-full d s h = rw (drop-of-length-le d h, append-nil)

@@ -1,5 +1,5 @@
--- Puts one after the other: each extends what is put before it.
---   Put out i b n left   the bytes b were put at place i of the buffer out, up to place n, and it holds left then
+-- Puts one after the other: each extends what was put before it.
+--   Put out i b n left   the bytes b are put into the buffer out from place i up to place n, and it then holds left
 use mathlib.Core.Path.{_≡_, refl, sym, ap, _∙_}
 use mathlib.Core.List.{List, [], _++_, append-assoc, append-nil}
 use Prim.Native.Nat.{ℕ, _+_, _≤_}
@@ -20,7 +20,7 @@ pub written-length : (out f : List ℕ) → length f ≤ length out → length (
 unfolding written
 written-length out f h = simp (length-append, length-drop) (omega arith)
 
--- What is written stands at the front, and what stands at the front is written.
+-- What is written is at the front; writing a buffer's own front changes nothing.
 pub written-front : (out f : List ℕ) → take (length f) (written out f) ≡ f
 unfolding written
 written-front out f = take-append-seam f (drop (length f) out)
@@ -52,7 +52,7 @@ pub record Put (out : List ℕ) (i : ℕ) (b : List ℕ) (n : ℕ) (left : List 
   pub room : n ≤ length out
   pub holds : left ≡ putIn out i b
 
--- A put writes what stood before its place, and the bytes.
+-- A put at place i writes the buffer's first i bytes, then the new ones.
 put-front : (out : List ℕ) (i : ℕ) (b : List ℕ) → i + length b ≤ length out
     → putIn out i b ≡ written out (take i out ++ b)
 put-front out i b h =
@@ -60,7 +60,7 @@ put-front out i b h =
     let e = put-after out (take i out) b (omega arith) in
     rw (front-written out i (omega arith), n) at e
 
--- Nothing, at any place.
+-- No bytes put, at any place.
 pub put-nil : (out : List ℕ) (i : ℕ) → i ≤ length out → Put out i [] i out
 put-nil out i h = record {
   ends = omega arith;
@@ -85,7 +85,7 @@ put-next {out} {i} {a} {n} {mid} h b m e q l =
       holds = both ∙ ap (written out) (append-assoc (take i out) a b) ∙ sym (put-front out i (a ++ b) (omega arith));
     }
 
--- What is put at the front is written, and stands there.
+-- Bytes put at place 0 are written, and are the front.
 module _ {out f : List ℕ} {n : ℕ} {left : List ℕ} (h : Put out 0 f n left) where
   pub put-written : left ≡ written out f
   put-written = h .holds ∙ put-front out 0 f (omega arith)

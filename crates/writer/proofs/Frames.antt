@@ -1,4 +1,4 @@
--- A frame put into a buffer: its four parts put one after the other, and the three answers.
+-- A frame put into a buffer: its four parts, one after the other, and the three answers.
 use mathlib.Core.Path.{_≡_, refl, sym, ap, _∙_}
 use mathlib.Core.List.{List, append-assoc}
 use Prim.Native.Nat.{ℕ, _+_, _≤_, _<_}
@@ -32,7 +32,7 @@ put-parts out k d b₁ b₂ b₃ b₄ h e₁ e₂ e₃ e₄ =
     let w₄ = put-next w₃ (tail k) (10 + length d) e₄ (omega arith) h in
     put-written w₄ ∙ ap (written out) (simp append-assoc)
 
--- What `put_frame` has to show, in its three cases.
+-- What the contract of `put_frame` asks, in its three cases.
 module _ (k : Kind) (d out : List ℕ) where
   frame-shown : (left : List ℕ) {r : WriteResult} → Wrote (frameRefusal d) (framed k d) out r left
       → Shown Unrepresentable (framable d) (framed k d) out r left

@@ -1,4 +1,4 @@
--- A put where the bytes fit, and where they do not.
+-- A put of bytes that fit, and of bytes that do not.
 use mathlib.Core.Path.{_≡_}
 use mathlib.Core.List.{List}
 use Prim.Native.Nat.{ℕ, _+_, _≤_, _<_}

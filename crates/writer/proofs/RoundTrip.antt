@@ -1,5 +1,5 @@
--- A writer and a reader that agree on the frame of a value agree on every buffer: the one law after the round trips of
--- commands, reports and acknowledgements.
+-- A writer and a reader that agree on the frame of a value agree on every buffer: one law for all round
+-- trips.
 use mathlib.Core.Path.{_≡_, refl, sym, _∙_}
 use mathlib.Core.Logic.{_↔_}
 use mathlib.Core.List.{List}
@@ -23,20 +23,20 @@ use Rattle.writer.proofs.Chain.{written-front}
 use Rattle.writer.proofs.Writers.{Wrote, Shown, wrote-refused, wrote-all, wrote-whole, none-good}
 use Rattle.writer.proofs.Writers.{write-causes, shown}
 
--- What is owed for the value v, which is refused with e unless it is good. No buffer is spoken of.
+-- What is shown of the value v, which is refused with e unless it is good; no buffer is mentioned.
 pub record Agreed {A : Type 0} (C : Codec A) (v : A) (e : Error) (good : Bool) : Type 0 where
   pub refused : C .refusal v ≡ unless good e
   pub number : C .number ≡ numberOf e
   pub apart : numberOf e ≡ 4 → ⊥
   pub some : numberOf e ≡ 0 → ⊥
-  -- the frame of a good value is a byte string that may stand where the value was written
+  -- the frame of a good value is within the limits, kept, and read as the value
   pub bytes : good ≡ true → Bytes (C .frame v)
   pub written : good ≡ true → Written C v (C .frame v)
-  -- a value that is read from such a string is good, and a string that is kept is its frame
+  -- a value read from a string within the limits is good, and if that string is kept, it is the value's frame
   pub found : (s : List ℕ) → Bytes s → C .Within s → C .Reads s v → good ≡ true
   pub again : (s : List ℕ) → Bytes s → C .Within s → C .Kept s → C .Reads s v → C .frame v ≡ s
 
--- What a writer has to show that agrees with its reader: its answer, its buffer, the causes, and the round trip.
+-- What the contract of a writer asks: its answer, its buffer, the causes, and the round trip.
 abbrev pub ShownRound : {A : Type 0} → Codec A → A → Bool → List ℕ → WriteResult → List ℕ → Type 0
 ShownRound C v good out r left =
     (r ≡ writes C v out)
@@ -56,7 +56,7 @@ module _ {A : Type 0} {C : Codec A} {v : A} {e : Error} {good : Bool} (h : Agree
       let x = wrote-whole s out (length s) (written out s) refl l refl in
       rw (h .refused, h .found s b w r, h .again s b w k r) (sym (x .0), sym (x .1))
 
-  -- A bad value is read from no string, and a value that is read from none is bad.
+  -- A value is bad exactly if it is read from no string of bytes within the limits.
   abbrev Unread : Type 0
   Unread = (s : List ℕ) → Bytes s → C .Within s → C .Reads s v → ⊥
 
@@ -75,7 +75,7 @@ module _ {A : Type 0} {C : Codec A} {v : A} {e : Error} {good : Bool} (h : Agree
       let bad = write-causes e (h .apart) (h .some) (C .frame v) (length out) good .refused in
       rw (h .refused, h .number) (λ z. bad-unread (bad .0 z), λ u. bad .1 (unread-bad good refl u))
 
-  -- They agree on the value.
+  -- Writer and reader agree on the value.
   pub round-trip : RoundTrip C v
   round-trip = record { back = read-back; exact = refused-exactly; again = written-again }
 
@@ -85,7 +85,7 @@ module _ {A : Type 0} {C : Codec A} {v : A} {e : Error} {good : Bool} (h : Agree
       let x = shown e (h .apart) (h .some) good (C .frame v) out left w in
       (rw (h .refused) (w .0), (rw (h .refused) (w .1), (rw (h .number) (x .1 .1), round-trip)))
 
-  -- The ways of a writer: the value is refused; or it is good, and the data b, which are its own, are framed.
+  -- What a writer may do: refuse the value; or, if it is good, frame its data d, which the code has as b.
   pub round-refused : (out : List ℕ) → good ≡ false → ShownRound C v good out (Err e) out
   round-refused out q = round-shown out out (rw q (wrote-refused (C .frame v) out e))
 
@@ -96,7 +96,7 @@ module _ {A : Type 0} {C : Codec A} {v : A} {e : Error} {good : Bool} (h : Agree
       let x = rw (q, le-leb (length d) 65535 l) at s in
       round-shown out left (rw (g, f) (x .0, x .1 .0))
 
-  -- Or it is good, and its frame is written by other means than `put_frame`.
+  -- Or, if it is good, write its frame without `put_frame`.
   pub round-wrote : (out left : List ℕ) {r : WriteResult} → good ≡ true → Wrote none (C .frame v) out r left
       → ShownRound C v good out r left
   round-wrote out left g w = round-shown out left (rw g w)

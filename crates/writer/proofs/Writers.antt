@@ -1,4 +1,4 @@
--- What a writer answers and leaves, by its three cases, and that each number has its cause.
+-- What a writer answers and leaves, in its three cases, and the cause of each number.
 use mathlib.Core.Path.{_≡_, refl, sym}
 use mathlib.Core.Logic.{inl, inr}
 use mathlib.Core.List.{List}
@@ -17,7 +17,7 @@ use Rattle.writer.specs.Written.{written, unless, answered, changed, wri
 use Rattle.writer.specs.declared.WriteResult.{WriteResult}
 use Rattle.writer.specs.declared.WriteResult.the-variants.{Ok, Err}
 
--- The answer r and the buffer left are those of a writer of the frame f into out, whose value w refuses, if it does.
+-- A writer of the frame f into out answers r and leaves the buffer left; w is the refusal of the value, if any.
 abbrev pub Wrote : Option Error → List ℕ → List ℕ → WriteResult → List ℕ → Type 0
 Wrote w f out r left = (r ≡ writeResult w f (length out)) × (left ≡ bufferAfter w f out)
 
@@ -40,7 +40,7 @@ pub none-good : (b : Bool) (e : Error) → unless b e ≡ none → b ≡ true
 none-good true e h = refl
 none-good false e h = let z : _≡_ {A = ℕ} 0 1 = cc in absurd (omega arith)
 
--- Nothing is refused only where the value is good and the frame fits, and then the whole frame is written.
+-- If nothing is refused, the value is good, the frame fits, and the whole frame is written.
 pub record WroteAll (w : Option Error) (f out left : List ℕ) (n : ℕ) : Type 0 where
   pub good : w ≡ none
   pub fits : length f ≤ length out
@@ -59,7 +59,7 @@ module _ (f out left : List ℕ) (n : ℕ) where
   wrote-all none h = all-by-length (leb (length f) (length out)) refl (h .0) (h .1)
   wrote-all (some e) h = let t = h .0 in let z : _≡_ {A = ℕ} 0 1 = cc in absurd (omega arith)
 
--- Bytes needed stand beside 4 alone.
+-- Only refusal 4 has bytes needed beside it.
 needed-none : (e : Error) → (numberOf e ≡ 4 → ⊥) → neededOf e ≡ 0
 needed-none InvalidFormat h = refl
 needed-none Unsupported h = refl
@@ -110,7 +110,7 @@ module _ (e : Error) (e-apart : numberOf e ≡ 4 → ⊥) (e-some : numberOf e �
   write-causes true = caused-good (leb (length f) n) refl
   write-causes false = caused-bad
 
--- What a writer with such a contract has to show: its answer, its buffer, and the causes, which follow.
+-- What the contract of such a writer asks: its answer, its buffer, and the causes, which follow from these.
 abbrev pub Shown : Error → Bool → List ℕ → List ℕ → WriteResult → List ℕ → Type 0
 Shown e good f out r left =
     (r ≡ writeResult (unless good e) f (length out))

@@ -1,4 +1,4 @@
--- `ack::checked_ack` meets its contract: what was read says how many bytes there are, and whether the bit is set.
+-- `ack::checked_ack` meets its contract: the numbers read decide whether A1 holds, and then A2.
 -- Assumes nothing.
 use borrow.Author.Needs.{needs}
 use Rattle.wire.proofs.Numbers.{two, read-short, read-long}

@@ -1,4 +1,4 @@
--- `ack_writer::writable` meets its contract: each test is one of the definition's. Assumes nothing.
+-- `ack_writer::writable` meets its contract: its tests are those of the definition. Assumes nothing.
 use mathlib.Core.Bool.{Bool·beq}
 use Prim.Native.Nat.{_/_, _%_}
 use lib.Dec.{eqb}

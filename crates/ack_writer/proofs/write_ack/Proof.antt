@@ -1,4 +1,4 @@
--- `ack_writer::write_ack` meets its contract: the value is tested, then the data are laid in an array, and the frame is
+-- `ack_writer::write_ack` meets its contract: the value is tested, its data are put into an array, and the frame is
 -- put around them. Assumes nothing.
 use mathlib.Core.Path.{_≡_, refl, sym, _∙_}
 use mathlib.Core.Bool.{Bool, true}
@@ -18,7 +18,7 @@ use Rattle.ack_writer.proofs.RoundTrip.{Fit, writable-sound, agreed}
 use Rattle.ack_writer.proofs.write_ack.Statement.{statement}
 use Rattle.ack_writer.proofs.write_ack.Tie as tie
 
--- What is to be written, and whether it may be.
+-- The value to write, and whether it can be written.
 abbrev value : tie.After-writable → AckValue
 value c =
     let a = c .before .before .before .args in

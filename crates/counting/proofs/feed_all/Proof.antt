@@ -1,6 +1,6 @@
--- `counting::feed_all` meets its contract. The loop's invariant is `Rest`, of the parser that the parts make up: what
--- is left of the bytes, fed one by one from here, leaves what all of them leave. The measure is what is left of their
--- number. The parser's type says what demand 3 asks of it. Assumes nothing.
+-- `counting::feed_all` meets its contract. The loop's invariant is `Rest`, of the parser made of the parts: the
+-- remaining bytes, fed one by one from here, leave what all of them leave. The measure is the number of bytes left. The
+-- parser's type says what demand 3 asks of it. Assumes nothing.
 use mathlib.Core.Path.{_≡_}
 use mathlib.Core.List.{List}
 use Prim.Native.Nat.{ℕ, _+_, _-_, _<_}
@@ -26,16 +26,16 @@ Inv-loop bytes buf₀ scan₀ stats₀ i₀ buf scan stats i = Rest (put buf₀ 
 abbrev μ-loop : tie.MeasureT-loop
 μ-loop bytes buf₀ scan₀ stats₀ i₀ buf scan stats i = length bytes - i
 
--- At the loop's head: where the slice given is known, and that it is no longer than memory, said here since a search
--- from below enters no more than 128 records.
+-- At the loop's head: where the given slice is known, and that its length fits 64 bits; stated here, since a search
+-- from further down enters no more than 128 records.
 abbrev start : tie.At-loop Inv-loop μ-loop → tie.After-shared-slice-known Inv-loop μ-loop
 start c = c .before .before .before .before
 
 room : (c : tie.At-loop Inv-loop μ-loop) → length (start c .before .args .bytes .now) < 18446744073709551616
 room c = search needs
 
--- After the slice feed: its call, the turn that made it, and where the loop stood; that the rest of the bytes was fed
--- from there, and where that leads.
+-- After the slice feed: its call, its turn of the loop, the loop's head, and the parser there; that this parser was fed
+-- the remaining bytes, and that the invariant holds again.
 abbrev called : tie.After-struct-known Inv-loop μ-loop → tie.After-feed-slice-at Inv-loop μ-loop
 called c = c .before .before .before .before
 

@@ -1,5 +1,5 @@
--- `counting::read_all` meets its contract. The loop's invariant is that some bytes leave the parser of a fresh one, and
--- each turn feeds more. The measure is the number of turns that are left. Assumes nothing.
+-- `counting::read_all` meets its contract. The loop's invariant is that some bytes, fed to a fresh parser, leave
+-- this one; each turn feeds more. The measure is the number of turns that are left. Assumes nothing.
 use native.Mathlib.Omega.{arith}
 use Rattle.parser.specs.Feed.{fresh}
 use Rattle.parser.specs.Claims.{FromHere}
@@ -24,7 +24,7 @@ turned c =
     let held = c .before .before .loop .inv in
     (reached-on _ _ _ (held .0) (turned-reached _ _ (c .read-some .ensures)), held .1)
 
--- What is reached is told on a line.
+-- The numbers of a parser so reached are a `Line`.
 told : {q : Parser} → Reached fresh q × FromHere fresh → Reached fresh q × Line (countsOf q)
 told {q} r = (r .0, line-of (r .1) q (r .0))
 

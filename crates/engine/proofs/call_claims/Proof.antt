@@ -1,4 +1,4 @@
--- Calls and their stretches: cited from Runs and Stretches. Assumes nothing.
+-- `engine::call_claims` meets its contract: `any` directly, the rest by Runs.antt and Stretches.antt. Assumes nothing.
 use Rattle.engine.proofs.Runs.{history-append, final-append}
 use Rattle.engine.proofs.Stretches.{stretches-joined, stretch-of}
 use Rattle.engine.specs.Claims.{AnyCall, HistoryAppend, StretchesJoined, StretchOfCall}

@@ -1,5 +1,5 @@
--- `engineering::read_block` meets its contract: the gate counts are there exactly where the block fits, and
--- then the fields are those of the block. Assumes nothing.
+-- `engineering::read_block` meets its contract: the gate counts are read exactly if the block fits, and then
+-- the fields are those of the block. Assumes nothing.
 use borrow.Author.Needs.{needs}
 use Rattle.engineering.proofs.Counts.{gates-inside, moving-inside}
 use Rattle.engineering.proofs.Blocks.{block-unfit, block-read}

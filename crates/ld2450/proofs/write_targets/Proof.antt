@@ -1,4 +1,4 @@
--- `ld2450::write_targets` meets its contract: the targets are tested, and where there is room each put extends what is
+-- `ld2450::write_targets` meets its contract: the targets are tested, and if the frame fits, each put extends what is
 -- written, by the header, each target's bytes and the tail. Assumes nothing.
 use mathlib.Core.Path.{_≡_, sym, _∙_}
 use mathlib.Core.Logic.{⊎-elim}
@@ -21,7 +21,7 @@ use Rattle.ld2450.proofs.Unsayable.{sends}
 use Rattle.ld2450.proofs.write_targets.Statement.{statement}
 use Rattle.ld2450.proofs.write_targets.Tie as tie
 
--- The targets, their types, and what is agreed on them.
+-- The targets, what their types say, and how writer and reader agree.
 abbrev start : tie.After-writable → tie.Start
 start c = c .before .before .before .before .before
 

@@ -1,4 +1,4 @@
--- `recovery::disturb` is safe and ends: there are 256 numbers. Assumes nothing.
+-- `recovery::disturb` is safe and ends: the loop counts up to 256. Assumes nothing.
 use Prim.Native.Nat.{_≤_, _-_}
 use borrow.Author.Needs.{needs}
 use Rattle.recovery.proofs.disturb.Statement.{statement}

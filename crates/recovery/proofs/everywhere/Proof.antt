@@ -1,4 +1,4 @@
--- `recovery::everywhere` is safe and ends: what is left of the bytes falls. Assumes nothing.
+-- `recovery::everywhere` is safe and ends: fewer bytes are left each turn. Assumes nothing.
 use Prim.Native.Nat.{_-_}
 use borrow.Author.Needs.{needs}
 use lib.ListN.{length}

@@ -1,4 +1,4 @@
--- `recovery::go_on` is safe and ends: what is left of the bytes falls, and no more frames are lost than bytes taken.
+-- `recovery::go_on` is safe and ends: fewer bytes are left each turn, and no more frames are lost than bytes passed.
 -- Assumes nothing.
 use Prim.Native.Nat.{_≤_, _-_}
 use borrow.Author.Needs.{needs}

@@ -1,4 +1,4 @@
--- `reply::read_mac` meets its contract: where the sixth byte is there, the copy fills the array. Assumes nothing.
+-- `reply::read_mac` meets its contract: if the sixth byte is there, the copy fills the array. Assumes nothing.
 use borrow.Author.Needs.{needs}
 use Rattle.wire.proofs.Numbers.{one, read-short, read-long}
 use Rattle.reply.proofs.Replies.{mac-short, mac-read}

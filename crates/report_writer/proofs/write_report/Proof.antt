@@ -22,7 +22,7 @@ use Rattle.report_writer.proofs.write_report.Tie as tie
 typed : (c : tie.Start) → TypedReport (c .args .report)
 typed c = report-typed (c .args .report) _ (c .good .1 .0)
 
--- Past the test the report can be written.
+-- After the test the report can be written.
 abbrev start : tie.Else1 → tie.Start
 start c = c .before .before .before
 

@@ -10,7 +10,7 @@ use Rattle.scan.proofs.OrReset.{or-reset-right}
 use Rattle.scan.proofs.or_reset.Statement.{statement}
 use Rattle.scan.proofs.or_reset.Tie as tie
 
--- What is the definition's is what document 01 says.
+-- A scan equal to the definition's is what document 01 asks for.
 both : {c r : Scan} → r ≡ orReset linkLimit c → (r ≡ orReset linkLimit c) × OrReset linkLimit c r
 both {c} {r} e = (e, subst (λ (x : Scan). OrReset linkLimit c x) (sym e) (or-reset-right linkLimit c))
 

@@ -1,4 +1,4 @@
--- `scan::progress` meets its contract: the numbers of a well-formed scan are small, so that no sum is too large.
+-- `scan::progress` meets its contract: the numbers of a well-formed scan are small, so no sum overflows.
 -- Assumes nothing.
 use borrow.Author.Needs.{needs}
 use native.Mathlib.Omega.{arith}

@@ -1,4 +1,4 @@
--- `settings::listen` is safe and ends: what is left of the bytes falls. Assumes nothing.
+-- `settings::listen` is safe and ends: each turn leaves fewer bytes. Assumes nothing.
 use Prim.Native.Nat.{_-_}
 use borrow.Author.Needs.{needs}
 use lib.ListN.{length}

@@ -1,4 +1,4 @@
--- `stream::delivery_claims`: a whole frame is what framing its data gives, and Delivered proves the claims of that.
+-- `stream::delivery_claims`: a whole frame is its data, framed, and Delivered proves the claims of framed data.
 -- Assumes nothing.
 use mathlib.Core.Path.{_≡_, refl, sym, ap, _∙_}
 use mathlib.Core.Logic.{_↔_}
@@ -20,11 +20,11 @@ use Rattle.stream.proofs.Delivered.{decodes-framed, delivered-framed}
 use Rattle.stream.proofs.delivery_claims.Statement.{statement}
 use Rattle.stream.proofs.delivery_claims.Tie as tie
 
--- No check fails first exactly if every check holds.
 none-failed : (o : MaybeCheck) → holds o ≡ true → o ≡ Maybe.None
 none-failed (Maybe.Some c) e = let z : _≡_ {A = ℕ} 0 1 = cc in absurd (omega arith)
 none-failed Maybe.None e = refl
 
+-- No check fails exactly if every check passes.
 holds-passes : (cs : Checks) (d : List ℕ) → (holds (firstFailed cs d) ≡ true) ↔ Passes cs d
 holds-passes cs d = (
   (λ e. passes-sound d cs (none-failed (firstFailed cs d) e)),
@@ -44,7 +44,7 @@ unfolding DeliversWhole
 delivers-whole limit s w r bytes = ap delivered (whole-spelled limit s bytes w)
     ∙ delivered-framed (w .held) r (w .kind) (whole-short limit s bytes w)
 
--- The reader refuses nothing exactly if no check fails.
+-- `Frame::parse` answers Ok exactly if no check fails.
 holds-accepted : (o : MaybeCheck) → (holds o ≡ true) ↔ (outcomeOf o ≡ Ok)
 holds-accepted (Maybe.Some c) = (
   (λ e. let z : _≡_ {A = ℕ} 0 1 = cc in absurd (omega arith)),

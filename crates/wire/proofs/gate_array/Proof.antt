@@ -1,5 +1,5 @@
--- `wire::gate_array` meets its contract. The loop's invariant: the first `gate` bytes of `src` stand over the zeros,
--- and `count` is as many as fit, so nine at most. The measure is what is left of it. Assumes nothing.
+-- `wire::gate_array` meets its contract. The loop's invariant: the first `gate` bytes of `src` are copied over the
+-- zeros, and `count` is how many fit, at most nine. The measure is `count` - `gate`. Assumes nothing.
 use mathlib.Core.Path.{_≡_, _∙_}
 use Prim.Native.Nat.{_-_, _≤_, min}
 use native.Mathlib.Omega.{arith}

@@ -1,5 +1,5 @@
--- `writer::put_frame` meets its contract: each put extends what is written, by the header, the length, the data and the
--- tail. Assumes nothing.
+-- `writer::put_frame` meets its contract: the header, the length, the data and the tail are put one after the
+-- other. Assumes nothing.
 use native.Mathlib.Omega.{arith}
 use borrow.Author.Needs.{needs}
 use Rattle.writer.proofs.Frames.{put-parts, frame-refused, frame-short, frame-whole}

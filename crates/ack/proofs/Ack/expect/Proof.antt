@@ -1,4 +1,4 @@
--- `ack::Ack::expect` meets its contract: the tests that led to each `return` say which case it is. Assumes nothing.
+-- `ack::Ack::expect` meets its contract: the tests before each `return` decide which case it is. Assumes nothing.
 use borrow.Author.Tests.{not-true, not-false}
 use Rattle.ack.proofs.Awaiting.{expected-whole, expected-other, expected-failed, expected-given}
 use Rattle.ack.proofs.Ack.expect.Statement.{statement}

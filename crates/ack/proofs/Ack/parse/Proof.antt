@@ -1,4 +1,4 @@
--- `ack::Ack::parse` meets its contract, as `checked_ack` answers. Assumes nothing.
+-- `ack::Ack::parse` meets its contract, by the answer of `checked_ack`. Assumes nothing.
 use borrow.Author.Needs.{needs}
 use mathlib.Core.Path.{refl, ap}
 use Rattle.ack.specs.declared.CheckedAck.the-variants as Checked

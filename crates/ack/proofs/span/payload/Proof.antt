@@ -1,4 +1,4 @@
--- `ack::payload` meets its contract: at each `return` the tests that led there say whether the span is inside.
+-- `ack::payload` meets its contract: the tests before each `return` decide whether the span is inside.
 -- Assumes nothing.
 use mathlib.Core.Path.{sym}
 use borrow.Author.Needs.{needs}

@@ -1,5 +1,5 @@
--- `command::Command::encodable` meets its contract: two arms are a line of `encodable` each, and the last is the rest
--- of them. Assumes nothing.
+-- `command::Command::encodable` meets its contract: two arms are a line of `encodable` each, and the last is all
+-- its other lines. Assumes nothing.
 use mathlib.Core.Path.{_≡_, refl, sym, _∙_}
 use mathlib.Core.Bool.{true}
 use mathlib.Core.List.{List, [], _∷_}

@@ -1,5 +1,5 @@
--- `command_reader::is_command_frame` meets its contract: the envelope is opened, then each test is one of a command's
--- frame. Assumes nothing.
+-- `command_reader::is_command_frame` meets its contract: the envelope is opened, then each test is a condition of a
+-- command frame. Assumes nothing.
 use mathlib.Core.Path.{_≡_, sym, _∙_}
 use Prim.Native.Nat.{ℕ}
 use native.Mathlib.Omega.{arith}
@@ -13,7 +13,7 @@ use borrow.Author.Needs.{needs}
 use Rattle.command_reader.proofs.command_frame.is_command_frame.Statement.{statement}
 use Rattle.command_reader.proofs.command_frame.is_command_frame.Tie as tie
 
--- What is known once the envelope is opened: the bytes, the family, and where the data end.
+-- What is known once the envelope is opened: the bytes, the kind, and where the data end.
 abbrev at-open : tie.After-known-told → tie.After-open
 at-open c = c .before .before .before
 

@@ -1,8 +1,6 @@
--- `cursor::Cursor::new` meets its contract: a walk of its MIR, by hand. The borrow of the slice goes into the
--- result as it is, beside the place 0 and the number.
--- The parameter is spent: the result names its lifetime, so nothing is had of it at exit, and `out .entry` is all that
--- the contract can say.
--- Assumes nothing.
+-- `cursor::Cursor::new` meets its contract, by a walk of its MIR written by hand. The slice's borrow moves into the
+-- result, which names its lifetime. So at exit nothing of `out` is left, and the contract can speak of `out .entry`
+-- only. Assumes nothing.
 use mathlib.Core.Path.{refl}
 use Prim.Native.Nat.{ℕ, _<_, _^_}
 use mathlib.Core.List.{[], _∷_, List}
@@ -93,7 +91,7 @@ module _ {M : Type 1} (𝓤 : URA M) (H : Heap 𝓤) (A : Atoms 𝓤) (W : Given
         qed W Entry ∵ enter ! C Λ code.function (v ∷ vint w64 m ∷ []) _ $
         alloc1 ! (λ l₀. alloc1 ! (λ l₁. alloc1 ! (λ l₂. alloc1 ! (λ l₃. alloc1 ! (λ l₄. alloc0 ! $ params1 ! $
         pass1 ! (init ! 6 refl (tt, wt)) $ pass1 ! (init ! 4 refl (tt, record { fits = m-fits })) $ pass0 ! $
-        -- [_4; …; _3; …; _2; …; _1; …; room for _0; …]: the slice is lent on, put together again, and put into the
+        -- [_4; …; _3; …; _2; …; _1; …; room for _0; …]: the slice is lent on, put together again, and stored in the
         -- struct
         assigns ! (addr ! (from ! (fld ! refl (hop ! (look-in ! 6 (sub ! 0 refl (whole !))) (stop !)))))
         (from ! (stop !)) (init ! 2 refl (tt, tt)) $

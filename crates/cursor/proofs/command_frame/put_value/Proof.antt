@@ -1,5 +1,5 @@
--- `cursor::put_value` meets its contract: where there is room for the frame, the function for its kind of value writes
--- all of it. Assumes nothing.
+-- `cursor::put_value` meets its contract: if the frame fits, the function for its kind of value writes all of it.
+-- Assumes nothing.
 use native.Mathlib.Omega.{arith}
 use borrow.Author.Needs.{needs}
 use Rattle.cursor.proofs.CommandFrame.{made-short, made-whole}

@@ -1,5 +1,5 @@
--- `engineering::Engineering::extra_at` meets its contract: the valid count says whether the byte was kept. Assumes
--- nothing.
+-- `engineering::Engineering::extra_at` meets its contract: the valid count decides whether the byte was kept.
+-- Assumes nothing.
 use mathlib.Core.Path.{sym, ap}
 use borrow.Author.Needs.{needs}
 use native.Mathlib.Omega.{arith}

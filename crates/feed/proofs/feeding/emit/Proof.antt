@@ -1,4 +1,4 @@
--- `feed::emit` meets its contract: as many bytes are decoded as the frame has, or all of the buffer.
+-- `feed::emit` meets its contract: it decodes as many bytes as the frame has, at most the whole buffer.
 -- Assumes nothing.
 use borrow.Author.Needs.{needs}
 use mathlib.Core.Path.{_≡_, sym, ap, _∙_}

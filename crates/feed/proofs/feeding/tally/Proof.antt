@@ -1,4 +1,4 @@
--- `feed::tally` meets its contract: no frame stands for one that does not decode. Assumes nothing.
+-- `feed::tally` meets its contract: an answer without a frame is counted as malformed. Assumes nothing.
 use borrow.Author.Needs.{needs}
 use Rattle.feed.proofs.feeding.tally.Statement.{statement}
 use Rattle.feed.proofs.feeding.tally.Tie as tie

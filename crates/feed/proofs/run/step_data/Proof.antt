@@ -1,4 +1,4 @@
--- `feed::step_data` meets its contract: each way through it has its law. Assumes nothing.
+-- `feed::step_data` meets its contract: it leaves the scan after one more data byte. Assumes nothing.
 use borrow.Author.Needs.{needs}
 use mathlib.Core.Path.{sym, _∙_}
 use Rattle.step.proofs.Turns.{data-step}

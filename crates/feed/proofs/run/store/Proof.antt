@@ -19,7 +19,7 @@ element-write-buf c =
 returns : tie.Need-returns
 returns c = stored-as _ _ (c .enum-told .given .1) _ _
 
--- The number of `Data` among the states is 2, and those of the others are not.
+-- `Data` is state 2, and no other state is.
 no-other : (_≡_ {A = ℕ} 2 0) ⊎ ((_≡_ {A = ℕ} 2 1) ⊎ (_≡_ {A = ℕ} 2 3)) → ⊥
 no-other = ⊎-elim (λ e. omega arith) (⊎-elim (λ e. omega arith) (λ e. omega arith))
 

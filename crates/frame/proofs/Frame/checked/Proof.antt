@@ -15,7 +15,7 @@ use borrow.Author.Needs.{needs}
 use Rattle.frame.proofs.Frame.checked.Statement.{statement}
 use Rattle.frame.proofs.Frame.checked.Tie as tie
 
--- What is known once the envelope is opened: the bytes, the family, and where the data end.
+-- What is known once the envelope is opened: the bytes, the kind, and where the data end.
 abbrev at-open : tie.After-known-told2 → tie.After-open
 at-open c = c .before .before .before
 

@@ -8,7 +8,7 @@ use Rattle.ld2450.proofs.Numbers.{Negated, negated, Natural, natural}
 use Rattle.ld2450.proofs.signed.raw_of.Statement.{statement}
 use Rattle.ld2450.proofs.signed.raw_of.Tie as tie
 
--- The parameter, as the machine has it.
+-- The parameter, read back from its bits.
 read-back : (c : tie.Start) → toZ w16 (ofZ w16 (c .args .x)) ≡ c .args .x
 read-back c = toZ-ofZ w16 (c .args .x) (c .fits .x)
 

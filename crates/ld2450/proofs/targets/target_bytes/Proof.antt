@@ -16,7 +16,7 @@ returns : tie.Need-returns
 unfolding targetBytes
 returns c = rw (not-true (c .before .before .args .t .present) (c .if1 .taken))
 
--- The target is present, and its fields are said.
+-- The target is present, and two bytes can say each signed field.
 abbrev given : tie.Else1 → Target
 given c = c .before .before .args .t
 

@@ -29,7 +29,7 @@ first-zero c = c .before .before
 abbrev second-zero : tie.After-is-zero3 → tie.Then5
 second-zero c = c .before .before
 
--- What each test told of its field.
+-- What each test says of its field.
 x-said : (c : tie.After-sayable) → c .sayable .result ≡ sayable (there c .x)
 x-said c = told-back sayable (there c .x) (c .before .struct-told .given .1 .0 .1) (c .sayable .ensures)
 
@@ -51,7 +51,7 @@ speed-zero c =
     told-back isZero (gone (first-zero (second-zero c .before) .before) .speed)
     (c .before .struct-told6 .given .1 .1 .1 .0 .1) (c .is-zero3 .ensures)
 
--- So the tests up to each are the definition's.
+-- So each test that was passed is the definition's.
 x-holds : (c : tie.Then2) → sayable (there (c .before) .x) ≡ true
 x-holds c = sym (x-said (c .before)) ∙ c .if2 .taken
 

@@ -1,5 +1,5 @@
--- `ld2450_parser::run_at` meets its contract. The loop's invariant is `Left`: what is left of the bytes, run from
--- here, comes to what all of them come to. The measure is their number. Assumes nothing.
+-- `ld2450_parser::run_at` meets its contract. The loop's invariant is `Left`: the run of the remaining bytes has the
+-- outcome of the run of all. The measure is the number of bytes left. Assumes nothing.
 use borrow.Author.Needs.{needs}
 use mathlib.Core.Path.{_≡_, refl}
 use mathlib.Core.Bool.{false}

@@ -1,5 +1,5 @@
 -- `parser::Parser::reset` meets its contract: LentResetWalk.antt walks it, over what `hunting` promises. The parser's
--- type says what demand 3 asks of it, so that the claims hold after a reset of any parser. Assumes nothing.
+-- type ensures what demand 3 asks, so the claims hold after a reset of any parser. Assumes nothing.
 use mathlib.Core.List.{[]}
 use Rattle.engine.proofs.LentReset.{Reset}
 use Rattle.engine.proofs.LentResetWalk.{lent-reset}

@@ -1,4 +1,4 @@
--- `recovery::frames::boundary` meets its contract: each frame ends after its start, and inside. Assumes nothing.
+-- `recovery::frames::boundary` meets its contract: each frame ends after its start, within the input. Assumes nothing.
 use Prim.Native.Nat.{_≤_, _-_}
 use borrow.Author.Needs.{needs}
 use lib.ListN.{length}

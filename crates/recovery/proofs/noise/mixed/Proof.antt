@@ -1,4 +1,4 @@
--- `recovery::noise::mixed` is safe and ends: what is left of the run falls. Assumes nothing.
+-- `recovery::noise::mixed` is safe and ends: less of the run is left each turn. Assumes nothing.
 use Prim.Native.Nat.{_≤_, _-_}
 use borrow.Author.Needs.{needs}
 use Rattle.recovery.proofs.noise.mixed.Statement.{statement}

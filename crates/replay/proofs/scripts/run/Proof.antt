@@ -1,4 +1,4 @@
--- `replay::scripts::run` is safe and ends: the calls stay within the script, of which less is left at each turn.
+-- `replay::scripts::run` is safe and ends: the calls stay within the script, and each turn leaves less of it.
 -- Assumes nothing.
 use Prim.Native.Nat.{_≤_, _-_}
 use borrow.Author.Needs.{needs}

@@ -1,4 +1,4 @@
--- `replay_io::argument::rest` meets its contract: from past the end on there is nothing. Assumes nothing.
+-- `replay_io::argument::rest` meets its contract: past the end there is nothing. Assumes nothing.
 use borrow.Author.Needs.{needs}
 use Rattle.replay_io.proofs.Parts.{rest-within}
 use Rattle.replay_io.proofs.argument.rest.Statement.{statement}

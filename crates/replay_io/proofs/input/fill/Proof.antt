@@ -1,5 +1,5 @@
--- `replay_io::input::fill` meets its contract. The loop's invariant: the bytes that are kept stand at the front. The
--- measure is what is left of the buffer. Assumes nothing.
+-- `replay_io::input::fill` meets its contract. The loop's invariant: the bytes that are kept are at the front. The
+-- measure is how much of the buffer is free. Assumes nothing.
 use mathlib.Core.Path.{_≡_, refl}
 use Prim.Native.Nat.{_-_}
 use borrow.Author.Needs.{needs}

@@ -1,5 +1,5 @@
--- `replay_io::input::keep` meets its contract. The loop's invariant: the first i bytes are moved, and those from there
--- on are as they were. The measure is what is left to move. Assumes nothing.
+-- `replay_io::input::keep` meets its contract. The loop's invariant: the first i bytes are moved, and the buffer from
+-- place i on is as it was. The measure is how many are left to move. Assumes nothing.
 use mathlib.Core.Path.{_≡_, refl}
 use Prim.Native.Nat.{_≤_, _-_}
 use native.Mathlib.Omega.{arith}

@@ -1,5 +1,5 @@
--- `replay_io::input::next_case` meets its contract: the bytes that are left are a whole case, or they are moved to the
--- front, and more are read after them. Assumes nothing.
+-- `replay_io::input::next_case` meets its contract: the unused bytes hold a whole case or one too long, or they are
+-- moved to the front, and more are read after them. Assumes nothing.
 use mathlib.Core.Path.{_≡_, sym, ap, _∙_}
 use mathlib.Core.List.{List, _++_}
 use Prim.Native.Nat.{ℕ, _-_}
@@ -10,7 +10,7 @@ use Rattle.replay_io.proofs.Cases.{unused-here, next-here, next-tested,
 use Rattle.replay_io.proofs.input.next_case.Statement.{statement}
 use Rattle.replay_io.proofs.input.next_case.Tie as tie
 
--- What stands at the front of the bytes that were left, and the test of it.
+-- What is at the front of the unused bytes, and the test of it.
 here : (c : tie.After-next-at) → let a = c .before .before .before .before .before .args in
     c .next-at .result ≡ nextAt (a .input .now) (usedOf (a .input .now) (a .case)) (readOf (a .input .now) (a .case))
 here c =

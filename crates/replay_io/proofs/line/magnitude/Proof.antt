@@ -1,5 +1,5 @@
--- `replay_io::line::magnitude` meets its contract: what the machine reads back from the parameter's bits is the
--- parameter. Assumes nothing.
+-- `replay_io::line::magnitude` meets its contract: the number that the machine reads from the parameter's bits is
+-- the parameter. Assumes nothing.
 use mathlib.Core.Path.{_≡_}
 use mir.Syntax.{w16, w32}
 use mir.Val.{toZ, ofZ}
@@ -8,7 +8,7 @@ use Rattle.replay_io.proofs.Signs.{Minus, minus, Plus, plus}
 use Rattle.replay_io.proofs.line.magnitude.Statement.{statement}
 use Rattle.replay_io.proofs.line.magnitude.Tie as tie
 
--- The parameter, as the machine has it.
+-- The parameter, read from its bits.
 read-back : (c : tie.Start) → toZ w16 (ofZ w16 (c .args .value)) ≡ c .args .value
 read-back c = toZ-ofZ w16 (c .args .value) (c .fits .value)
 
@@ -23,7 +23,7 @@ above c =
 widened : tie.Need-cast-result
 widened c = rw (read-back (c .before)) (below c .wide)
 
--- The parameter in 32 bits, as the machine has it.
+-- The parameter, read from its 32 bits.
 wide-back : (c : tie.Then1) → toZ w32 (ofZ w32 (c .before .args .value)) ≡ c .before .args .value
 wide-back c = toZ-ofZ w32 (c .before .args .value) (below c .wide)
 

@@ -1,4 +1,4 @@
--- `replay_io::line::signed` meets its contract: what the machine reads back from the parameter's bits is the parameter.
+-- `replay_io::line::signed` meets its contract: the number that the machine reads from the parameter's bits is it.
 -- Assumes nothing.
 use mathlib.Core.Path.{_≡_}
 use borrow.Author.Needs.{needs}
@@ -9,7 +9,7 @@ use Rattle.replay_io.proofs.Signs.{signed-minus, signed-plus}
 use Rattle.replay_io.proofs.line.signed.Statement.{statement}
 use Rattle.replay_io.proofs.line.signed.Tie as tie
 
--- The parameter, as the machine has it.
+-- The parameter, read from its bits.
 read-back : (c : tie.Start) → toZ w16 (ofZ w16 (c .args .value)) ≡ c .args .value
 read-back c = toZ-ofZ w16 (c .args .value) (c .fits .value)
 

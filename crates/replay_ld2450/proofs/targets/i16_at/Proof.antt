@@ -1,4 +1,4 @@
--- `replay_ld2450::targets::i16_at` is safe: what is counted down from -1 are at most 32,767. Assumes nothing.
+-- `replay_ld2450::targets::i16_at` is safe: the number taken from -1 is at most 32,767. Assumes nothing.
 use mathlib.Core.Path.{_≡_}
 use Prim.Native.Nat.{ℕ, zero, suc, _-_, _<_}
 use native.Mathlib.Omega.{arith}

@@ -1,5 +1,5 @@
--- `report::CheckedReport::completed` meets its contract: by the type a block is read, or there must be none, or R6
--- fails. Assumes nothing.
+-- `report::CheckedReport::completed` meets its contract: by the type, a block is read, or none may follow,
+-- or R6 fails. Assumes nothing.
 use borrow.Author.Needs.{needs}
 use Rattle.report.proofs.ReportChecked.{fails-R6}
 use Rattle.report.proofs.CheckedReport.completed.Statement.{statement}

@@ -1,4 +1,4 @@
--- `report::CheckedReport::with_block` meets its contract: the block fits or R8 fails. Assumes nothing.
+-- `report::CheckedReport::with_block` meets its contract: the block fits, or R8 fails. Assumes nothing.
 use borrow.Author.Needs.{needs}
 use Rattle.report.proofs.ReportChecked.{fails-R8, completes-engineering}
 use Rattle.report.proofs.CheckedReport.with_block.Statement.{statement}

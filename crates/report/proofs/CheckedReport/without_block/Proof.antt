@@ -1,5 +1,5 @@
--- `report::CheckedReport::without_block` meets its contract: nothing stands after the basic bytes or R7 fails. Assumes
--- nothing.
+-- `report::CheckedReport::without_block` meets its contract: nothing follows the basic bytes, or R7 fails.
+-- Assumes nothing.
 use borrow.Author.Needs.{needs}
 use Rattle.report.proofs.ReportChecked.{fails-R7, completes-basic}
 use Rattle.report.proofs.CheckedReport.without_block.Statement.{statement}

@@ -1,4 +1,4 @@
--- `report::Report::parse` meets its contract, by what `checked_report` and `outcome` ensure. Assumes nothing.
+-- `report::Report::parse` meets its contract, by the contracts of `checked_report` and `outcome`. Assumes nothing.
 use mathlib.Core.Path.{ap, _∙_}
 use borrow.Author.Needs.{needs}
 use Rattle.refusal.specs.Check.{outcomeOf}

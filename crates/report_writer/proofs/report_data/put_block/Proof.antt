@@ -13,7 +13,7 @@ use Rattle.report_writer.proofs.ReportData.{block-put}
 use Rattle.report_writer.proofs.report_data.put_block.Statement.{statement}
 use Rattle.report_writer.proofs.report_data.put_block.Tie as tie
 
--- What is known once the flag is on.
+-- What is known if the flag is on.
 abbrev block : tie.Else1 → Engineering
 block c = c .before .before .before .args .report .engineering
 

@@ -1,4 +1,4 @@
--- `report_writer::zero_from` meets its contract. The loop's invariant: the entries from the first place on are all 0
+-- `report_writer::zero_from` meets its contract. The loop's invariant: the entries from `from` on are all 0
 -- exactly if those from i on are. The measure is how many are left. Assumes nothing.
 use mathlib.Core.Path.{_≡_, refl, sym, _∙_}
 use Prim.Native.Nat.{_-_}

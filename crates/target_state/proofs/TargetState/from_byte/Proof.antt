@@ -1,5 +1,5 @@
--- `target_state::TargetState::from_byte` meets its contract: each arm's pattern is what the byte is, or what its two
--- lowest bits are. Assumes nothing.
+-- `target_state::TargetState::from_byte` meets its contract: the pattern of each arm fixes the byte, or its two
+-- lowest bits. Assumes nothing.
 use native.Mathlib.Omega.{arith}
 use Rattle.target_state.specs.State.{stateOf}
 use Rattle.target_state.proofs.States.{read-as, read-bits, read-both}

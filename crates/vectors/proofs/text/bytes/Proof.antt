@@ -1,4 +1,4 @@
--- `vectors::text::bytes` is safe and ends: what is left of the values falls. Assumes nothing.
+-- `vectors::text::bytes` is safe and ends: each turn leaves fewer values. Assumes nothing.
 use Prim.Native.Nat.{_≤_, _-_}
 use borrow.Author.Needs.{needs}
 use lib.ListN.{length}

@@ -1,4 +1,4 @@
--- `vectors::text::form` is safe and ends: what is left of the form falls, and the place in the row stays inside.
+-- `vectors::text::form` is safe and ends: each turn leaves less of the form, and the place in the row stays inside.
 -- Assumes nothing.
 use Prim.Native.Nat.{_≤_, _<_, _-_}
 use borrow.Author.Needs.{needs}

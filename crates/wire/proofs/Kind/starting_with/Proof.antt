@@ -1,4 +1,4 @@
--- `wire::Kind::starting_with` meets its contract: each arm's pattern decides the tests of `startingWith`.
+-- `wire::Kind::starting_with` meets its contract: the pattern of each arm decides the tests of `startingWith`.
 -- Assumes nothing.
 use borrow.Author.Tests.{ne-eqb}
 use Rattle.wire.proofs.Kind.starting_with.Statement.{statement}

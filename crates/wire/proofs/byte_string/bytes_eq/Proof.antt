@@ -1,5 +1,5 @@
--- `wire::bytes_eq` meets its contract. The loop's invariant: the slices agree up to i. The measure is what is left
--- of the length. Assumes nothing.
+-- `wire::bytes_eq` meets its contract. The loop's invariant: the slices agree up to i. The measure is how many
+-- bytes are left. Assumes nothing.
 use mathlib.Core.Path.{_≡_, refl, sym, ap, _∙_}
 use mathlib.Core.List.{List}
 use Prim.Native.Nat.{ℕ, _+_, _-_, _≤_, _<_}

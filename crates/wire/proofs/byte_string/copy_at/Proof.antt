@@ -1,5 +1,5 @@
--- `wire::copy_at` meets its contract. The loop's invariant: the first i bytes of `src` stand over those of `dst`
--- from `at` on, and n is as many as fit. The measure is what is left of n. Assumes nothing.
+-- `wire::copy_at` meets its contract. The loop's invariant: the first i bytes of `src` are copied into `dst`
+-- from `at` on, and n is how many fit. The measure is n - i. Assumes nothing.
 use mathlib.Core.Path.{_≡_, refl, _∙_}
 use Prim.Native.Nat.{_-_, _≤_, min}
 use native.Mathlib.Omega.{arith}

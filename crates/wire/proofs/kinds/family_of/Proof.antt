@@ -1,4 +1,4 @@
--- `wire::family_of` meets its contract, by what `bytes_eq` says of each header. Assumes nothing.
+-- `wire::family_of` meets its contract, by the answer of `bytes_eq` for each header. Assumes nothing.
 use mathlib.Core.Path.{sym}
 use borrow.Author.Needs.{needs}
 use Rattle.wire.proofs.Conditions.{answer-told}

@@ -1,5 +1,4 @@
--- `wire::bump` meets its contract: what is left below the max decides which side of the minimum it is.
--- Assumes nothing.
+-- `wire::bump` meets its contract: its test decides whether the sum or the maximum is smaller. Assumes nothing.
 use borrow.Author.Needs.{needs}
 use native.Mathlib.Omega.{arith}
 use Rattle.wire.specs.Counter.{bumped}

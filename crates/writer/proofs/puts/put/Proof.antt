@@ -1,5 +1,4 @@
--- `writer::put` meets its contract: where there is room for all the bytes, as many as fit are all of them. Assumes
--- nothing.
+-- `writer::put` meets its contract: if the bytes have room, as many as fit are all of them. Assumes nothing.
 use mathlib.Core.Path.{sym, _∙_}
 use native.Mathlib.Omega.{arith}
 use borrow.Author.Needs.{needs}

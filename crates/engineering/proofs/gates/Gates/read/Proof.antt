@@ -1,5 +1,5 @@
--- `engineering::Gates::read` meets its contract: where it leaves, something of `Fits` does not hold; at the end all of
--- it does. Assumes nothing.
+-- `engineering::Gates::read` meets its contract: where it returns early, a field of `Fits` does not hold; at the end
+-- all hold. Assumes nothing.
 use borrow.Author.Needs.{needs}
 use native.Mathlib.Omega.{arith}
 use Rattle.wire.proofs.Numbers.{one, read-short}

@@ -1,5 +1,5 @@
--- `feed::parts::scan_slice` meets its contract. The loop's invariant is `Left`: what is left of the bytes, run from
--- here, comes to what all of them come to. The measure is their number. Assumes nothing.
+-- `feed::parts::scan_slice` meets its contract. The loop's invariant is `Left`, that the run of the bytes that are left
+-- is the run of all, and that no frame ended. The measure is how many are left. Assumes nothing.
 use borrow.Author.Needs.{needs}
 use mathlib.Core.Path.{_≡_, refl, ap}
 use Prim.Native.Nat.{_-_}

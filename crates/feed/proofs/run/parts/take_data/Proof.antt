@@ -56,7 +56,7 @@ copied c =
     let all : c .before .loop .j ≡ n .min .result = omega arith in
     record { start = start (n .before); fewest = n .min .ensures; came = rw (← all) (c .before .loop .inv .1) }
 
--- The number of `Data` among the states is 2, and those of the others are not.
+-- `Data` is state 2, and no other state is.
 no-data : (_≡_ {A = ℕ} 2 0) ⊎ ((_≡_ {A = ℕ} 2 1) ⊎ (_≡_ {A = ℕ} 2 3)) → ⊥
 no-data = ⊎-elim (λ e. omega arith) (⊎-elim (λ e. omega arith) (λ e. omega arith))
 

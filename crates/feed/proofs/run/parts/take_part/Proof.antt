@@ -1,5 +1,5 @@
--- `feed::parts::take_part` meets its contract. The loop's invariant is `Within`: it is in the state in which it began,
--- and the run from here is the run from the start. The measure is what is left of the bytes. Assumes nothing.
+-- `feed::parts::take_part` meets its contract. The loop's invariant is `Within`: the state is that in which the loop
+-- began, and the run from here is the run from the start. The measure is how many bytes are left. Assumes nothing.
 use borrow.Author.Needs.{needs}
 use borrow.Author.Tests.{ltb-true, not-false}
 use mathlib.Core.Path.{_≡_, sym, _∙_}
@@ -21,7 +21,7 @@ Inv-loop bytes from state at₀ counted₀ i₀ at counted i = Within linkLimit 
 abbrev μ-loop : tie.MeasureT-loop
 μ-loop bytes from state at₀ counted₀ i₀ at counted i = length bytes - i
 
--- A turn, where its byte is stepped.
+-- The loop's turn, after the step of its byte.
 turn : (c : tie.At-match-came Inv-loop μ-loop) → (let l = c .before in
     let a = l .before .before .args in
     Turn linkLimit (a .scan) (a .stats) (a .bytes .now) (a .from) (l .loop .at) (l .loop .counted) (l .loop .i)
@@ -37,7 +37,7 @@ turn c =
     (λ w. turn-in Tail (l .inv) (w .1 .given .1) (w .4 ∙ w .3 .ensures) (omega (arith, w .2 .given (l .i))))))
     (c .match .came)
 
--- Where the byte was stepped, before it is told whether the loop goes on.
+-- The point after the step, before the code decides whether the loop goes on.
 abbrev came : tie.At-match2-came Inv-loop μ-loop → tie.At-match-came Inv-loop μ-loop
 came c = c .before .before .before
 

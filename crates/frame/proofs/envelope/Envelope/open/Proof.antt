@@ -1,4 +1,4 @@
--- `frame::Envelope::open` meets its contract: each test is a check's, in the checks' order. Assumes nothing.
+-- `frame::Envelope::open` meets its contract: its tests are the checks, in their order. Assumes nothing.
 use mathlib.Core.Path.{_≡_, sym, _∙_, ap}
 use Prim.Native.Nat.{ℕ, _+_}
 use native.Mathlib.Omega.{arith}
@@ -24,7 +24,7 @@ found c = c .before .before .before
 abbrev read : tie.After-known-told2 → tie.After-le16
 read c = c .before .before .before
 
--- What is known once the header is one, and once the length is there: the bytes, the family, the length.
+-- What is known once a header is found, and once the length is there: the bytes, the kind, the length.
 abbrev bytes : tie.After-known-told → List ℕ
 bytes c = let long = found c .before .before in now (long .before .before .args .bytes)
 
@@ -37,11 +37,11 @@ headed c = read c .before
 abbrev len : tie.After-known-told2 → ℕ
 len c = c .before .len .given .0 .0
 
--- The family that the header announces.
+-- The kind that the header announces.
 announces : (c : tie.After-known-told) → family (bytes c) ≡ Found.Some (kind c)
 announces c = sym (found c .family-of .ensures) ∙ c .before .kind .given .1
 
--- The two length bytes, and the length that they are.
+-- The two length bytes are there, and make the length.
 length-there : (c : tie.After-known-told2) → There 2 (bytes (headed c)) 4 (len c)
 length-there c = read-some two _ 4 (sym (read c .le16 .ensures) ∙ c .before .len .given .1)
 

@@ -1,4 +1,4 @@
--- `reply::Parameters::gates` meets its contract, as `min` says. Assumes nothing.
+-- `reply::Parameters::gates` meets its contract, by that of `min`. Assumes nothing.
 use borrow.Author.Needs.{needs}
 use Rattle.reply.proofs.parameters.Parameters.gates.Statement.{statement}
 use Rattle.reply.proofs.parameters.Parameters.gates.Tie as tie

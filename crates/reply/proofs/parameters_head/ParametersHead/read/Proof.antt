@@ -1,5 +1,5 @@
--- `reply::ParametersHead::read` meets its contract: each byte is there, or the payload is shorter than four; then the
--- tests say whether it can begin so. Assumes nothing.
+-- `reply::ParametersHead::read` meets its contract: each byte is there, or the payload has fewer than four; then the
+-- tests decide whether the head fits. Assumes nothing.
 use borrow.Author.Needs.{needs}
 use native.Mathlib.Omega.{arith}
 use Rattle.wire.proofs.Conditions.{answer-told}

@@ -1,5 +1,5 @@
--- `report::Basic::read` meets its contract: where a number is missing, so are the nine bytes; at the end all six
--- numbers are there. Assumes nothing.
+-- `report::Basic::read` meets its contract: if a number is missing, there are fewer than nine bytes; at the end
+-- all six numbers are there. Assumes nothing.
 use borrow.Author.Needs.{needs}
 use Rattle.wire.proofs.Conditions.{answer-told}
 use Rattle.wire.proofs.Numbers.{one, two, read-short}

@@ -1,5 +1,5 @@
--- `report::Layout::checked` meets its contract: where it leaves, the checks before hold and that one fails; at the
--- end R1 to R5 hold. Assumes nothing.
+-- `report::Layout::checked` meets its contract: at each early return one check fails and those before it hold; at
+-- the end R1 to R5 hold. Assumes nothing.
 use borrow.Author.Needs.{needs}
 use Rattle.wire.proofs.Numbers.{one, read-short, read-long}
 use Rattle.report.proofs.Layouts.{two-more, fails-R1, fails-R2, fails-R3, fails-R4, fails-R5, layout-read}
