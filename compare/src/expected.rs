@@ -1,14 +1,14 @@
 //! What our program must print, line for line. A script's answer is the model's of the division, since the original's
 //! counters stop where ours go on; a state byte is read by the model's rule, since the original knows no calibration;
 //! farthest gates are taken by the model's rule, since the original takes 0 and 1.
-//! The LD2450's answers are a model's, since the original knows no such module. All else is the oracle's.
+//! The LD2450's answers and the load's are models', since the original knows neither. All else is the oracle's.
 
 use ld2410::access::ORIGINAL_MAX;
 
 use crate::case::{self, Case, Next};
 use crate::line;
 use crate::model::rules::{Rules, RULES};
-use crate::model::{ld2450, streams};
+use crate::model::{ld2450, loads, streams};
 use crate::oracle;
 use crate::oracle::gates::Gates;
 use crate::oracle::states::States;
@@ -34,6 +34,7 @@ pub fn answer(case: Case<'_>, out: &mut Vec<u8>) {
 pub fn answer_by(case: Case<'_>, rules: &Rules, out: &mut Vec<u8>) {
     let modelled = match case.op {
         op if is_script(op) => streams::answer(case, rules, out),
+        15 => loads::answer(case.argument, &rules.loads, out),
         30..=32 => ld2450::answer(case, &rules.ld2450, out),
         _ => None,
     };

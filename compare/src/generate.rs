@@ -6,6 +6,7 @@ pub mod commands;
 pub mod damage;
 pub mod frames;
 pub mod ld2450;
+pub mod loads;
 pub mod parsers;
 pub mod random;
 pub mod reports;
@@ -74,6 +75,7 @@ pub fn cases(op: u8, seed: u64, scale: u64, emit: &mut dyn FnMut(&[u8])) {
         12 => commands::baud_cases(&mut cases),
         13 => parsers::built_parser_cases(&mut cases),
         14 => built_acks::built_ack_cases(&mut cases),
+        15 => loads::load_cases(&mut cases),
         20 => stations::station_cases(&mut cases),
         30 => ld2450::frames::frame_cases(&mut cases),
         31 => ld2450::values::value_cases(&mut cases),

@@ -1,6 +1,7 @@
 //! The fixed list of each program: cases that reach every check from both sides, for the gate to replay.
 
 mod ld2450;
+mod loads;
 mod readers;
 mod sessions;
 mod streams;
@@ -35,6 +36,7 @@ pub fn arguments(op: u8) -> Vec<Vec<u8>> {
         12 => writers::rates(),
         13 => streams::built_parsers(random),
         14 => readers::built_acks(random),
+        15 => loads::loads(),
         20 => sessions::scripts(),
         30 => ld2450::frames(random),
         31 => ld2450::values(random),

@@ -3,6 +3,7 @@
 
 mod gates;
 mod ld2450;
+mod loads;
 mod parsers;
 mod readers;
 mod sessions;
@@ -133,6 +134,7 @@ pub fn of(op: u8) -> Vec<Mutant> {
     all.extend(tables::mutants());
     all.extend(sessions::mutants());
     all.extend(ld2450::mutants());
+    all.extend(loads::mutants());
     all.retain(|mutant| mutant.op == op);
     all
 }

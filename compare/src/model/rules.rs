@@ -5,6 +5,7 @@ use ld2410::access::Fields as ParserFields;
 use super::division::{next_piece, Piece, LIMIT};
 use super::gates::may_be_farthest;
 use super::ld2450;
+use super::loads;
 use super::state::{self, State};
 use crate::oracle::streams::in_range;
 
@@ -21,10 +22,12 @@ pub struct Rules {
     pub gates: fn(u8, u8) -> bool,
     /// The LD2450's.
     pub ld2450: ld2450::Rules,
+    /// The load's.
+    pub loads: loads::Rules,
 }
 
-/// Document 01's rules, with the counters of request 1, the states of request 3, the module of request 6
-/// and the farthest gates of request 7.
+/// Document 01's rules, with the counters of request 1, the states of request 3, the module of request 6, the farthest
+/// gates of request 7 and the load of request 8.
 pub const RULES: Rules = Rules {
     state: state::from_byte,
     next_piece: |rest| next_piece(rest, LIMIT),
@@ -32,4 +35,5 @@ pub const RULES: Rules = Rules {
     in_range,
     gates: may_be_farthest,
     ld2450: ld2450::RULES,
+    loads: loads::RULES,
 };

@@ -3,6 +3,7 @@
 use mathlib.Core.Path.{_≡_, refl, subst, ap}
 use mathlib.Core.List.{List, _++_, map}
 use mathlib.Core.Bool.{Bool, true, not}
+use Prim.Native.Nat.{ℕ}
 use lib.ListN.{length}
 use borrow.Author.Tests.{not-true}
 use Rattle.refusal.specs.declared.Error.the-variants.{UnknownCommand}
@@ -47,13 +48,18 @@ use Rattle.session.specs.Session.{sendOf, bufferOf, receiveOf, giveUpOf}
 use Rattle.session.specs.Machine.{Response, Conversation}
 use Rattle.session.specs.Claims.{sessionCall}
 use Rattle.session.proofs.Moved.{any-run}
+use Rattle.load_writer.specs.Draw.{drawOf}
+use Rattle.load_writer.specs.Load.{piece, laidDown}
+use Rattle.load_writer.specs.Answer.{loadResult, loadBuffer}
+use Rattle.load_writer.specs.declared.LoadResult.{LoadResult}
 use Rattle.cases.specs.Row.{Numbers, addedUp, countedBy, Stream, StreamHolds, Run, RunHolds}
-use Rattle.cases.specs.Row.{CommandRow, encodes, parses, CommandHolds, Talk, TalkHolds}
-use Rattle.cases.specs.Row.{stream, run, command, talk, Holds}
+use Rattle.cases.specs.Row.{CommandRow, encodes, parses, CommandHolds, Talk, TalkHolds, LoadRow, LoadHolds}
+use Rattle.cases.specs.Row.{stream, run, command, talk, load, Holds}
 use Rattle.cases.specs.Streams.{streams}
 use Rattle.cases.specs.Runs.{runs}
 use Rattle.cases.specs.Commands.{commands}
 use Rattle.cases.specs.Talks.{talks}
+use Rattle.cases.specs.Loads.{loads}
 use Rattle.cases.specs.Claims.{AllHold}
 use Rattle.cases.proofs.Agree.{rows-hold}
 
@@ -162,13 +168,34 @@ talk-holds r e = record {
   stood = ap (λ (x : Spoken). x .left) e;
 }
 
--- The whole table is these four, joined.
+-- A load's answer and buffer, as computed and as the row says.
+record Wrote : Type 0 where
+  pub answer : LoadResult
+  pub after : List ℕ
+
+abbrev wrote : LoadRow → Wrote
+wrote r = record { answer = loadResult (r .seed) (length (r .before)); after = loadBuffer (r .seed) (r .before) }
+
+abbrev asked : LoadRow → Wrote
+asked r = record { answer = r .answer; after = r .after }
+
+loads-computed : map wrote loads ≡ map asked loads
+unfolding loadResult loadBuffer written framed drawOf piece laidDown
+loads-computed = refl
+
+load-holds : (r : LoadRow) → wrote r ≡ asked r → LoadHolds r
+load-holds r e = record { answered = ap (λ (x : Wrote). x .answer) e; left = ap (λ (x : Wrote). x .after) e }
+
+-- The whole table is these five, joined.
 pub all-hold : AllHold
 all-hold =
-    every-append Holds (map stream streams) (map run runs ++ (map command commands ++ map talk talks))
+    every-append Holds (map stream streams)
+    (map run runs ++ (map command commands ++ (map talk talks ++ map load loads)))
     (rows-hold found said stream Holds stream-holds streams streams-computed)
-    (every-append Holds (map run runs) (map command commands ++ map talk talks)
+    (every-append Holds (map run runs) (map command commands ++ (map talk talks ++ map load loads))
     (rows-hold ran told run Holds run-holds runs runs-computed)
-    (every-append Holds (map command commands) (map talk talks)
+    (every-append Holds (map command commands) (map talk talks ++ map load loads)
     (rows-hold done stated command Holds command-holds commands commands-computed)
-    (rows-hold spoken wanted talk Holds talk-holds talks talks-computed)))
+    (every-append Holds (map talk talks) (map load loads)
+    (rows-hold spoken wanted talk Holds talk-holds talks talks-computed)
+    (rows-hold wrote asked load Holds load-holds loads loads-computed))))

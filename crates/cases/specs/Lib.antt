@@ -10,5 +10,7 @@ pub mod Runs
 pub mod Commands
 -- Document 02's sessions.
 pub mod Talks
+-- Document 02's loads.
+pub mod Loads
 -- The theorem.
 pub mod Claims

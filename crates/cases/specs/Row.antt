@@ -10,6 +10,8 @@
 --   CommandHolds r   the row holds by what the contracts of `Command::encode` and `read_command` cite
 --   Talk             events on a session, the responses, and the session afterwards
 --   TalkHolds r      the row holds by request 2's machine, and by what the contracts of a session cite
+--   LoadRow          a load written: its seed, the answer, and the buffer before and after
+--   LoadHolds r      the row holds by what the contract of `write_load` cites
 --   Row              a row of any of these kinds; Holds r says when it holds
 use mathlib.Core.Path.{_≡_}
 use mathlib.Core.List.{List}
@@ -35,6 +37,8 @@ use Rattle.engine.specs.Runs.{history, final}
 use Rattle.session.specs.declared.Session.{Session}
 use Rattle.session.specs.Machine.{Event, Response, Conversation}
 use Rattle.session.specs.Claims.{sessionCall}
+use Rattle.load_writer.specs.Answer.{loadResult, loadBuffer}
+use Rattle.load_writer.specs.declared.LoadResult.{LoadResult}
 
 pub record Numbers : Type 0 where
   pub frames : ℕ
@@ -108,14 +112,26 @@ pub record TalkHolds (r : Talk) : Type 0 where
   pub responded : history sessionCall (r .start) (r .events) ≡ r .responses
   pub stood : final sessionCall (r .start) (r .events) ≡ r .left
 
+pub record LoadRow : Type 0 where
+  pub seed : ℕ
+  pub before : List ℕ
+  pub answer : LoadResult
+  pub after : List ℕ
+
+pub record LoadHolds (r : LoadRow) : Type 0 where
+  pub answered : loadResult (r .seed) (length (r .before)) ≡ r .answer
+  pub left : loadBuffer (r .seed) (r .before) ≡ r .after
+
 pub data Row : Type 0 where
   stream : (r : Stream) → Row
   run : (r : Run) → Row
   command : (r : CommandRow) → Row
   talk : (r : Talk) → Row
+  load : (r : LoadRow) → Row
 
 abbrev pub Holds : Row → Type 0
 Holds (stream r) = StreamHolds r
 Holds (run r) = RunHolds r
 Holds (command r) = CommandHolds r
 Holds (talk r) = TalkHolds r
+Holds (load r) = LoadHolds r

@@ -1,5 +1,5 @@
--- The stream rows of document 01, "Bytes to try": "Stream rows start fresh." Where the document names some of the five
--- numbers, the others are those of its division.
+-- The stream rows of document 01, "Bytes to try", and rows for requests 5 and 8: "Stream rows start fresh." Where the
+-- document names some of the five numbers, the others are those of its division.
 --   b           "B is F4 F3 F2 F1 0D 00 02 AA 03 78 00 3C 96 00 2D C8 00 55 00 F8 F7 F6 F5"
 --   bare        a command frame that is no acknowledgement: its data are a word alone
 --   begun       a report's header, and the length 54
@@ -11,6 +11,7 @@ use Prim.Native.Nat.{ℕ}
 use lib.ListN.{take, drop, replicate}
 use Rattle.framing.specs.Piece.{Piece, stray, broken, whole, unfinished}
 use Rattle.cases.specs.Row.{Numbers, Stream}
+use Rattle.cases.specs.Loads.{printedAck, drawnReport, firstCut, secondCut, mendedReport, laterReport}
 
 abbrev pub b : List ℕ
 b = 0xF4 ∷ 0xF3 ∷ 0xF2 ∷ 0xF1 ∷ 0x0D ∷ 0x00 ∷ 0x02 ∷ 0xAA ∷ 0x03 ∷ 0x78 ∷ 0x00 ∷ 0x3C ∷ 0x96 ∷ 0x00 ∷ 0x2D ∷ 0xC8
@@ -65,4 +66,14 @@ streams =
     -- and lost if it begins 53 bytes later: its first byte is taken for the last data byte
     ∷ row (begun ++ (zeros 43 ++ b)) (broken (begun ++ (zeros 43 ++ (0xF4 ∷ []))) ∷ map stray (drop 1 b))
     (numbers 0 1 82 0 0)
+    -- request 8, loads of Loads.antt: a report and the acknowledgement after it are whole frames, and decode
+    ∷ row (drawnReport ++ printedAck) (whole drawnReport ∷ whole printedAck ∷ []) (numbers 2 0 0 0 0)
+    -- reports without their last byte are broken starts, and a single byte is stray
+    ∷ row (firstCut ++ (secondCut ++ (0xE8 ∷ []))) (broken firstCut ∷ broken secondCut ∷ stray 0xE8 ∷ [])
+    (numbers 0 2 45 0 0)
+    -- unless the byte is the missing one
+    ∷ row mendedReport (whole mendedReport ∷ []) (numbers 1 0 0 0 0)
+    -- single bytes begin a header, and the report after them is found
+    ∷ row (0xF4 ∷ 0xF3 ∷ 0xF2 ∷ laterReport) (broken (0xF4 ∷ 0xF3 ∷ 0xF2 ∷ []) ∷ whole laterReport ∷ [])
+    (numbers 1 1 3 0 0)
     ∷ []

@@ -78,3 +78,9 @@ pub use wire::MaybeU16;
 pub use ack_writer::write_ack;
 pub use report_writer::write_report;
 pub use writer::WriteResult;
+
+// The load of a seed, for tests.
+pub use load_writer::LoadError;
+pub use load_writer::LoadResult;
+pub use load_writer::MAX_LOAD;
+pub use load_writer::write_load;

@@ -2,6 +2,7 @@
 // line of numbers. docs/REPLAY.md has the form of both.
 mod commands;
 mod fields;
+mod loads;
 mod numbers;
 mod ops;
 mod readers;

@@ -1,6 +1,7 @@
 // The table of the ops.
 use crate::commands;
 use crate::fields;
+use crate::loads;
 use crate::readers;
 use crate::scripts;
 use crate::writers;
@@ -62,9 +63,11 @@ fn has_answer(op: u8, argument: &[u8]) -> bool {
         9 => 0,
         12 => 2,
         14 => 23,
+        15 => 9,
         _ => return false,
     };
-    argument.len() >= shortest && writers::has_value(op, argument)
+    argument.len() >= shortest
+        && (writers::has_value(op, argument) && loads::has_buffer(op, argument))
 }
 
 // Puts what follows the op in its line.
@@ -79,6 +82,7 @@ fn fields(out: &mut Text, taken: usize, op: u8, argument: &[u8]) -> usize {
         9 => commands::read(out, taken, argument),
         12 => commands::baud(out, taken, argument),
         14 => readers::replies_of_built(out, taken, argument),
+        15 => loads::write(out, taken, argument),
         _ => writers::write(out, taken, op, argument),
     }
 }

@@ -73,10 +73,10 @@ apart Report (x ∷ w) zero h u = ne-eqb 0xF4 x (λ e. h .0 .0 (sym e))
 apart Command (x ∷ w) zero h u = ne-eqb 0xFD x (λ e. h .0 .1 (sym e))
 apart j (x ∷ w) (suc m) h u = apart j w m (h .1) (omega arith)
 
-tail-apart : (j k : Kind) (m : ℕ) → m < 4 → eqb (first j) (getD (tail k) m 0) ≡ false
+pub tail-apart : (j k : Kind) (m : ℕ) → m < 4 → eqb (first j) (getD (tail k) m 0) ≡ false
 tail-apart j k m u = apart j (tail k) m (tail-plain k) (omega (arith, tail-length k))
 
-header-apart : (j k : Kind) (m : ℕ) → m < 3 → eqb (first j) (getD (header k) (suc m) 0) ≡ false
+pub header-apart : (j k : Kind) (m : ℕ) → m < 3 → eqb (first j) (getD (header k) (suc m) 0) ≡ false
 header-apart j Report m u = apart j (drop 1 (header Report)) m (second-plain Report, others-plain Report) u
 header-apart j Command m u = apart j (drop 1 (header Command)) m (second-plain Command, others-plain Command) u
 

@@ -1,0 +1,3 @@
+-- Laws about the definitions, which the proofs of this crate cite.
+-- Digits that a number takes.
+pub mod Digits
