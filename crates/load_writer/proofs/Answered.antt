@@ -1,4 +1,4 @@
--- What the writer of loads answers and leaves, by the seed; and that 9 is given exactly to the seed zero.
+-- The answer of the writer of loads and the buffer that it leaves, for the seed zero and for any other.
 use mathlib.Core.Path.{_≡_, refl, sym, ap, _∙_}
 use mathlib.Core.Logic.{_≢_}
 use mathlib.Core.List.{List, _++_, append-assoc}
@@ -19,7 +19,7 @@ use Rattle.load_writer.specs.declared.LoadResult.the-variants.{Ok, Err}
 use Rattle.load_writer.specs.declared.LoadError.the-variants.{SeedZero}
 use Rattle.load_writer.proofs.Stopping.{load-within}
 
--- What is written into the front part of a buffer is written into the buffer.
+-- A string written into the front part of a buffer is written into the buffer.
 part-written : (out f : List ℕ) (n : ℕ) → length f ≤ n → n ≤ length out
     → written (take n out) f ++ drop n out ≡ written out f
 unfolding written
@@ -94,7 +94,7 @@ module _ {x : ℕ} (e : x ≢ 0) (out : List ℕ) {room : ℕ} (r : room ≡ min
         stay = rw (told, left) (drop-append-seam f (drop (length f) out));
       }
 
--- For a caller, who takes the front of the buffer: what is filled is inside.
+-- The filled length is inside the buffer, so that a caller can take the front.
 chose : (b : Bool) (k : ℕ) {n : ℕ} → Ok n ≡ cond b (Err SeedZero) (Ok k) → n ≡ k
 chose true k e = let z : _≡_ {A = ℕ} 0 1 = cc in absurd (omega arith)
 chose false k e = cc

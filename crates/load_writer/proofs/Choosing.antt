@@ -33,7 +33,7 @@ module _ (x : ℕ) {d : ℕ} (e : d ≡ drawOf x) where
   pub acknowledged : d % 4 ≡ 3 → piece x ≡ record { bytes = enableConfigAck; next = d }
   acknowledged q = chosen 3 q
 
--- A report that is drawn has 23 bytes.
+-- The frame of a basic report has 23 bytes.
 pub report-length : (x : ℕ) {r : DrawnReport} → r ≡ reportDrawn x → length (r .bytes) ≡ 23
 unfolding framed
 report-length x e = rw e
@@ -45,7 +45,7 @@ pub report-cut : (k x : ℕ) {r : DrawnReport} → r ≡ reportDrawn x
     → cutReport k x ≡ record { bytes = take k (r .bytes); next = r .next }
 report-cut k x e = rw e
 
--- The piece is put, and the generator is where it left it.
+-- Putting a piece's bytes gives its end, and the number after it.
 pub piece-put : (out : List ℕ) (at : ℕ) {p : LoadPiece} {b : List ℕ} {y : ℕ} → p ≡ record { bytes = b; next = y }
     → {q : Placed} {left : List ℕ} → (q ≡ placed out at b) × (left ≡ putIn out at b)
     → (_≡_ {A = PutPiece} (record { placed = q; next = y }) (putPiece out at p)) × (left ≡ putIn out at (p .bytes))

@@ -1,6 +1,6 @@
 -- A buffer that is filled piece by piece.
---   Filling s out x at left   of the load of the seed s in the buffer out the first pieces are put, up to place at; the
---                             buffer holds left, and the generator x
+--   Filling s out x at left   the first pieces of the load of the seed s are put into the buffer `out`, up to place
+--                             `at`; the buffer is now `left`, and the generator holds x
 use mathlib.Core.Path.{_≡_, sym, ap, _∙_}
 use mathlib.Core.List.{List, [], _++_, append-assoc, append-nil}
 use Prim.Native.Nat.{ℕ, _+_, _-_, _≤_, _<_}
@@ -18,7 +18,7 @@ use Rattle.load_writer.specs.Drawn.{putPiece}
 use Rattle.load_writer.specs.declared.pieces.PutPiece.{PutPiece}
 use Rattle.load_writer.proofs.Fitting.{piece-not-empty, load-more, load-stops}
 
--- A put that tells its end had the room, and one that tells none had not.
+-- A put that gives its end had room, and one that gives none had not.
 placed-end : (out : List ℕ) (at : ℕ) (b : List ℕ) {e : ℕ} → placed out at b ≡ End e
     → (at + length b ≤ length out) × (e ≡ at + length b)
 unfolding placed
