@@ -46,10 +46,32 @@ pub fn arguments(op: u8) -> Vec<Vec<u8>> {
 }
 
 /// Writes the list of these ops to `stdin` and its answers to `stdout` in the directory of the program that has them.
-/// The last case is cut short, and that before it has an op that the program has not. Nothing is written where an
-/// answer is not the original's but for what is intended.
 pub fn write(directory: &Path, ops: &[u8]) -> io::Result<bool> {
-    let program = program_of(directory)?;
+    let (input, answers) = made(program_of(directory)?, ops)?;
+    fs::create_dir_all(directory)?;
+    fs::write(directory.join("stdin"), &input)?;
+    fs::write(directory.join("stdout"), &answers)?;
+    let lines = answers.iter().filter(|&&byte| byte == b'\n').count();
+    println!("{} bytes of cases, {lines} lines of answers", input.len());
+    Ok(true)
+}
+
+/// Prints for each program whether its stored list is the one that `write` writes; true where all are.
+pub fn stored(crates: &Path) -> io::Result<bool> {
+    let mut all = true;
+    for program in &PROGRAMS {
+        let (input, answers) = made(program, program.ops)?;
+        let directory = crates.join(program.name);
+        let same = fs::read(directory.join("stdin"))? == input && fs::read(directory.join("stdout"))? == answers;
+        println!("stored list of {}: {}as --write-list writes it", program.name, if same { "" } else { "NOT " });
+        all &= same;
+    }
+    Ok(all)
+}
+
+/// The list of these ops of a program, and its answers. The last case is cut short, and that before it has an op that
+/// the program has not. There is none where an answer is not the original's but for what is intended.
+fn made(program: &Program, ops: &[u8]) -> io::Result<(Vec<u8>, Vec<u8>)> {
     let mut input = Vec::new();
     for &op in ops.iter().filter(|op| program.ops.contains(op)) {
         for argument in arguments(op) {
@@ -64,12 +86,7 @@ pub fn write(directory: &Path, ops: &[u8]) -> io::Result<bool> {
     Case { op: program.no_ops[0], argument: &[] }.write(&mut input);
     input.extend(program.cut);
     let answers = expected::answers(&input, program.ops);
-    fs::create_dir_all(directory)?;
-    fs::write(directory.join("stdin"), &input)?;
-    fs::write(directory.join("stdout"), &answers)?;
-    let lines = answers.iter().filter(|&&byte| byte == b'\n').count();
-    println!("{} bytes of cases, {lines} lines of answers", input.len());
-    Ok(true)
+    Ok((input, answers))
 }
 
 /// The program that a directory has its name from.

@@ -49,7 +49,8 @@ fn run(options: &Options) -> io::Result<bool> {
         Mode::Compare => compare::run(options),
         Mode::SelfCheck => {
             let scale = options.scale.unwrap_or(SELF_CHECK_SCALE);
-            Ok(self_check::run(&options.ops, options.seed, scale))
+            let noticed = self_check::run(&options.ops, options.seed, scale);
+            Ok(list::stored(&options.crates)? && noticed)
         }
         Mode::WriteList(directory) => list::write(directory, &options.ops),
         Mode::Recovery(directory) => recovery::run(directory),

@@ -7,7 +7,8 @@ use crate::programs::{self, PROGRAMS};
 pub const USAGE: &str = "\
 usage: compare/run [--original FILE] [options]
   without a mode          run the generated cases through our programs and hold their answers against the original's
-  --self-check            hold wrong variants against the right answers: each must be noticed
+  --self-check            hold wrong variants against the right answers: each must be noticed; and hold the stored lists
+                          against what --write-list writes
   --write-list DIR        write the fixed list of cases and answers to DIR/stdin and DIR/stdout; DIR is named as the
                           program whose list it is, as in crates/replay
   --recovery DIR          disturb the frames of DIR/stdin, count those that the original loses after it, and hold the
@@ -18,6 +19,7 @@ options
   --ours PROGRAM          our program (default target/bin/replay)
   --station PROGRAM       our program of op 20 (default target/bin/replay_station)
   --ld2450 PROGRAM        our program of ops 30 to 32 (default target/bin/replay_ld2450)
+  --crates DIR            the folder of the stored lists (default crates)
   --ops 1,2,3             these ops alone (default: all)
   --seed N                seed of the random cases (default 1)
   --scale N               one random case for N at full scale (default 1, the self-check's 100)";
@@ -35,6 +37,8 @@ pub struct Options {
     pub mode: Mode,
     /// Where each of PROGRAMS is.
     pub paths: [PathBuf; PROGRAMS.len()],
+    /// The folder that has the stored list of each.
+    pub crates: PathBuf,
     pub ops: Vec<u8>,
     pub seed: u64,
     pub scale: Option<u64>,
@@ -45,6 +49,7 @@ pub fn parse(mut arguments: impl Iterator<Item = String>) -> Result<Options, Str
     let mut options = Options {
         mode: Mode::Compare,
         paths: PROGRAMS.map(|program| Path::new("target/bin").join(program.name)),
+        crates: "crates".into(),
         ops: programs::ops(),
         seed: 1,
         scale: None,
@@ -52,6 +57,7 @@ pub fn parse(mut arguments: impl Iterator<Item = String>) -> Result<Options, Str
     while let Some(name) = arguments.next() {
         let mut value = || arguments.next().ok_or(format!("{name} needs a value"));
         match name.as_str() {
+            "--crates" => options.crates = value()?.into(),
             "--ops" => options.ops = ops(&value()?)?,
             "--seed" => options.seed = number(&value()?)?,
             "--scale" => options.scale = Some(number(&value()?)?.max(1)),
