@@ -169,22 +169,18 @@ talk-holds r e = record {
 }
 
 -- A load's answer and buffer, as computed and as the row says.
-record Wrote : Type 0 where
-  pub answer : LoadResult
-  pub after : List ℕ
+abbrev wrote : LoadRow → LoadResult × List ℕ
+wrote r = (loadResult (r .seed) (length (r .before)), loadBuffer (r .seed) (r .before))
 
-abbrev wrote : LoadRow → Wrote
-wrote r = record { answer = loadResult (r .seed) (length (r .before)); after = loadBuffer (r .seed) (r .before) }
-
-abbrev asked : LoadRow → Wrote
-asked r = record { answer = r .answer; after = r .after }
+abbrev asked : LoadRow → LoadResult × List ℕ
+asked r = (r .answer, r .after)
 
 loads-computed : map wrote loads ≡ map asked loads
 unfolding loadResult loadBuffer written framed drawOf piece laidDown
 loads-computed = refl
 
 load-holds : (r : LoadRow) → wrote r ≡ asked r → LoadHolds r
-load-holds r e = record { answered = ap (λ (x : Wrote). x .answer) e; left = ap (λ (x : Wrote). x .after) e }
+load-holds r e = record { answered = ap (λ x. x .0) e; left = ap (λ x. x .1) e }
 
 -- The whole table is these five, joined.
 pub all-hold : AllHold

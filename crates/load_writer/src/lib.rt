@@ -57,8 +57,8 @@ fn fill(out: &mut [u8], seed: u32) -> usize
     }
 }
 
-// Writes the load of a seed into the front of `out`, at most 65,536 bytes, and returns the filled length. Bytes after the
-// load stay. Refuses the seed zero with 9, before all else; a refused call changes no byte.
+// Writes the load of a seed into the front of `out`, at most 65,536 bytes, and returns the filled length. Bytes after
+// the load stay. Refuses the seed zero with 9, before all else; a refused call changes no byte.
 pub fn write_load(out: &mut [u8], seed: u32) -> LoadResult
     ensures answered { λ r. ⌜ r ≡ loadResult seed (length (now (out .entry))) ⌝ }
     ensures left { λ _. ⌜ now (out .exit) ≡ loadBuffer seed (now (out .entry)) ⌝ }
