@@ -30,8 +30,8 @@ module _ (x : ℕ) {d : ℕ} (e : d ≡ drawOf x) where
   pub cut-report : d % 4 ≡ 2 → piece x ≡ cutReport 22 d
   cut-report q = chosen 2 q
 
-  pub acknowledged : d % 4 ≡ 3 → piece x ≡ record { bytes = enableConfigAck; next = d }
-  acknowledged q = chosen 3 q
+  pub ack-chosen : d % 4 ≡ 3 → piece x ≡ record { bytes = enableConfigAck; next = d }
+  ack-chosen q = chosen 3 q
 
 -- The frame of a basic report has 23 bytes.
 pub report-length : (x : ℕ) {r : DrawnReport} → r ≡ reportDrawn x → length (r .bytes) ≡ 23

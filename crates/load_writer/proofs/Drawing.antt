@@ -15,15 +15,15 @@ use Rattle.load_writer.specs.Drawn.{nineDrawn, reportDrawn}
 use Rattle.load_writer.specs.declared.draws.Nine.{Nine}
 use Rattle.load_writer.specs.declared.pieces.DrawnReport.{DrawnReport}
 
-pub after-suc : (k x : ℕ) → after (suc k) x ≡ drawOf (after k x)
+after-suc : (k x : ℕ) → after (suc k) x ≡ drawOf (after k x)
 after-suc zero x = refl
 after-suc (suc k) x = after-suc k (drawOf x)
 
-pub drawn-suc : (k x : ℕ) → drawn (suc k) x ≡ drawn k x ++ (after (suc k) x % 256 ∷ [])
+drawn-suc : (k x : ℕ) → drawn (suc k) x ≡ drawn k x ++ (after (suc k) x % 256 ∷ [])
 drawn-suc zero x = refl
 drawn-suc (suc k) x = ap (λ (l : List ℕ). drawOf x % 256 ∷ l) (drawn-suc k (drawOf x))
 
-pub drawn-length : (k x : ℕ) → length (drawn k x) ≡ k
+drawn-length : (k x : ℕ) → length (drawn k x) ≡ k
 drawn-length zero x = refl
 drawn-length (suc k) x = ap suc (drawn-length k (drawOf x))
 

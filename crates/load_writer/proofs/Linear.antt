@@ -126,7 +126,7 @@ NoHeader u v w = (x : ℕ) → x < 2 ^ 32
     → after 5 x % 4 ≡ 0 → after 6 x % 256 ≡ w
     → after 7 x % 4 ≡ 0 → ⊥
 
-pub no-header : (u v w : ℕ) → tapped taps (0 ∷ u ∷ 0 ∷ v ∷ 0 ∷ w ∷ 0 ∷ []) % 2 ≡ 1 → NoHeader u v w
+no-header : (u v w : ℕ) → tapped taps (0 ∷ u ∷ 0 ∷ v ∷ 0 ∷ w ∷ 0 ∷ []) % 2 ≡ 1 → NoHeader u v w
 no-header u v w odd x h p₁ p₂ p₃ p₄ p₅ p₆ p₇ =
     let even = rw (p₁, p₂, p₃, p₄, p₅, p₆, p₇) at (taps-even x h) in omega (arith, odd, even)
 

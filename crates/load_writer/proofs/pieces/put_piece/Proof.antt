@@ -3,7 +3,7 @@ use mathlib.Core.Path.{_≡_}
 use Prim.Native.Nat.{_%_}
 use native.Mathlib.Omega.{arith}
 use borrow.Author.Needs.{needs}
-use Rattle.load_writer.proofs.Choosing.{one-byte, whole-report, cut-report, acknowledged, piece-put, same-put}
+use Rattle.load_writer.proofs.Choosing.{one-byte, whole-report, cut-report, ack-chosen, piece-put, same-put}
 use Rattle.load_writer.proofs.pieces.put_piece.Statement.{statement}
 use Rattle.load_writer.proofs.pieces.put_piece.Tie as tie
 
@@ -34,7 +34,7 @@ returns-4 c =
     let choice = put .before .before .before in
     let none = choice .match .rest in
     let last : choice .before .draw .result % 4 ≡ 3 = omega (arith, none .0 .0 .1, none .0 .1, none .1) in
-    piece-put _ _ (acknowledged _ (choice .before .draw .ensures) last) (put .put2 .ensures)
+    piece-put _ _ (ack-chosen _ (choice .before .draw .ensures) last) (put .put2 .ensures)
 
 pub put-piece-spec : {M : Type 1} → statement M
 put-piece-spec =
