@@ -1,6 +1,9 @@
 // Acknowledgements of the LD2410: reading one from a frame's data, testing it for a word, and reading its reply.
 //
 // The Rust's `Ack` borrows its payload. Here an `Ack` has the payload's span, and a reply takes the bytes too.
+
+#![tactic(auto)]
+
 mod span;
 
 ghost use Rattle.std.specs.Prelude.{◌≡◌, true};

@@ -1,6 +1,9 @@
 // The writer of acknowledgement frames, as the module sends them.
 //
 // It writes each value that the reader of frames can give, with a payload of at most 50 bytes, and refuses every other.
+
+#![tactic(auto)]
+
 ghost use Rattle.std.specs.Prelude.{◌≡◌, false, length};
 ghost use Rattle.writer.specs.Written.{write_result, buffer_after, WriteCauses};
 ghost use Rattle.writer.specs.RoundTrip.{RoundTrip};

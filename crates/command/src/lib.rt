@@ -1,6 +1,9 @@
 // Commands to the module: their words, values and frames, and the encoder.
 //
 // `Command::encodable` alone says which values the module takes: the encoder refuses any other.
+
+#![tactic(auto)]
+
 mod setting;
 
 ghost use Rattle.std.specs.Prelude.{◌≡◌, false, length};

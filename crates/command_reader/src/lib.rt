@@ -1,6 +1,9 @@
 // The reader of commands: it finds the command that encodes to the bytes of a frame.
 //
 // The word and values in a frame leave one command that can encode to it: the reader encodes that, and compares.
+
+#![tactic(auto)]
+
 mod command_frame;
 
 ghost use Rattle.std.specs.Prelude.{◌≡◌};

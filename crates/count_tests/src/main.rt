@@ -1,5 +1,8 @@
 // Inputs of the counting program that its own stored input leaves out. Each prints one line. `stdout` has the lines
 // that document 01 gives, worked out by hand.
+
+#![tactic(auto)]
+
 use counting::{feed_all, print_counts, read_all};
 use ld2410::Parser;
 use libc::{STDIN_FILENO, STDOUT_FILENO};

@@ -1,4 +1,7 @@
 // Counting what a stream holds: any number of bytes are fed to a parser, and its numbers printed on one line.
+
+#![tactic(auto)]
+
 ghost use Rattle.std.specs.Prelude.{◌≡◌, length, take};
 ghost use Rattle.wire.specs.Bytes.{Bytes};
 ghost use Rattle.stream.specs.Length.{link_limit};

@@ -4,6 +4,9 @@
 // Every method is total: with too little space it refuses with 4 and the bytes needed in all, and neither the slice nor
 // the position changes. `Cursor` is private to this crate, and so is its 4. To a caller 4 means that the output is
 // shorter than the frame, which `put_value` tests before anything is put.
+
+#![tactic(auto)]
+
 mod command_frame;
 
 ghost use Rattle.std.specs.Prelude.{◌≡◌, ◌++◌};

@@ -1,6 +1,9 @@
 // The engineering block of a report, energies by gate and reserved bytes: reading it, and its accessors.
 //
 // The Rust's `Option<Engineering>` is here a flag beside the block. With the flag off, every field of the block is 0.
+
+#![tactic(auto)]
+
 mod gates;
 
 ghost use Rattle.std.specs.Prelude.{◌≡◌};

@@ -1,4 +1,7 @@
 // Bytes fed into a lent buffer, one or a slice: a frame that ended is decoded and counted.
+
+#![tactic(auto)]
+
 mod counts;
 mod feeding;
 mod run;

@@ -3,6 +3,9 @@
 //
 // The Rust's `Frame` borrows an acknowledgement's payload. Here a frame is a kind beside a report and an
 // acknowledgement, the unused one all 0, and the payload is a span of the bytes that were read.
+
+#![tactic(auto)]
+
 mod envelope;
 
 ghost use Rattle.std.specs.Prelude.{◌≡◌};

@@ -1,6 +1,8 @@
 // The front door of the LD2410's serial link: what a user of the link names, and nothing else. Each name is declared in
 // its own crate; what else a crate declares is for other crates, and no entry point.
 
+#![tactic(auto)]
+
 // Sizes and command words.
 pub use wire::{ACK_BIT, GATES, Kind, MAX_DATA, MAX_EXTRA, MAX_FRAME, MaybeKind, word};
 

@@ -1,4 +1,7 @@
 // The LD2450, a module that reports three targets: its frame, read and written.
+
+#![tactic(auto)]
+
 mod signed;
 mod targets;
 

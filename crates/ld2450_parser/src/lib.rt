@@ -1,5 +1,8 @@
 // The streaming parser of the LD2450: a stretch of bytes in, targets and counters out. The crate also passes on what a
 // user names of its frames, and so is the module's front door.
+
+#![tactic(auto)]
+
 pub use ld2450::{
     Error, FRAME_LEN, HELD_LEN, Outcome, TARGETS, Target, TargetsResult, WriteResult, read_targets,
     write_targets,

@@ -1,5 +1,8 @@
 // Writes the load of a seed, in a buffer of 65,536 bytes, to standard output. The seed is the one argument, in decimal.
 // Without one argument that is a number from 1 to 4,294,967,295, it writes a line to standard error and nothing else.
+
+#![tactic(auto)]
+
 ghost use Rattle.std.specs.Prelude.{◌≡◌, true};
 ghost use Rattle.load.specs.Seed.{is_taken, with_digit, seed_of, SeedExamples};
 

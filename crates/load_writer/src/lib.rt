@@ -1,4 +1,7 @@
 // The load of a seed: bytes to test a link with, which anyone who has the seed can make again.
+
+#![tactic(auto)]
+
 mod draws;
 mod pieces;
 

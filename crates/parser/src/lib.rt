@@ -2,6 +2,9 @@
 //
 // The Rust's flat private fields are here in three parts: the buffer, the scan (where in a frame the parser is) and the
 // counters. So a byte moves a few numbers, and the buffer stays in place.
+
+#![tactic(auto)]
+
 use feed::Taken;
 use frame::Frame;
 use scan::{Scan, Stats, hunting, unfinished};

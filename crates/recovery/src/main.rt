@@ -5,6 +5,9 @@
 // were in progress; else it is lost. Its distance is that of its start from the boundary. The output has a line for
 // each way, and the bound of request 5, which is for frames with neither F4 nor FD among their data. The file stdout
 // beside src/ has what the original Rust loses (compare/src/recovery.rs).
+
+#![tactic(auto)]
+
 use counting::feed_all;
 use ld2410::{FrameKind, MAX_DATA, Parser};
 use libc::STDIN_FILENO;

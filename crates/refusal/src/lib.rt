@@ -1,4 +1,7 @@
 // The refusals of a call with document 01's numbers, and the checks that give them, in its order.
+
+#![tactic(auto)]
+
 ghost use Rattle.std.specs.Prelude.{◌≡◌};
 ghost use Rattle.refusal.specs.Refusal.{number_of, needed_of, refusal_of};
 ghost use Rattle.refusal.specs.Check.{error_of, outcome_of};

@@ -1,5 +1,8 @@
 // Answers cases from standard input: each calls a function of the link on the bytes that it brings, and its answer is a
 // line of numbers. docs/REPLAY.md has the form of both.
+
+#![tactic(auto)]
+
 mod commands;
 mod fields;
 mod loads;

@@ -1,5 +1,8 @@
 // Answers cases of the LD2450 from standard input: a frame that is read or written, or a script of calls on a parser.
 // The answer to a call is a line of numbers. docs/REPLAY.md has the form of both.
+
+#![tactic(auto)]
+
 mod frames;
 mod scripts;
 mod targets;

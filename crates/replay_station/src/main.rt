@@ -1,5 +1,8 @@
 // Answers cases of a session from standard input: each is a script of events, and the answer to an event is a line of
 // numbers. docs/REPLAY.md has the form of both.
+
+#![tactic(auto)]
+
 mod script;
 
 use replay_io::argument::{rest, u8_at};

@@ -1,5 +1,8 @@
 // The replies that an acknowledgement's payload holds, by the command that it answers. Three of the four are read here,
 // the fourth in parameters.rt.
+
+#![tactic(auto)]
+
 mod parameters;
 mod parameters_head;
 

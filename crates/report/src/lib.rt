@@ -1,6 +1,9 @@
 // Reports of the LD2410: reading them from a report frame's data, and their targets.
 //
 // The Rust's `Option<Engineering>` is here a flag beside the block. With the flag off, every field of the block is 0.
+
+#![tactic(auto)]
+
 mod basic;
 mod layout;
 mod targets;

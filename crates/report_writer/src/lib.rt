@@ -1,6 +1,9 @@
 // Writing report frames: it can write every report that the reader gives, with at most eight reserved bytes.
 //
 // What the reader cannot give is refused, so that reading what was written gives the report.
+
+#![tactic(auto)]
+
 mod report_data;
 mod writable;
 

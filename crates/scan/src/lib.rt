@@ -2,6 +2,9 @@
 //
 // A scan is a few numbers; the data bytes of the frame in progress are in a buffer that the caller lends. A scan with a
 // number out of range is handled as if reset came first.
+
+#![tactic(auto)]
+
 mod stats;
 
 ghost use Rattle.std.specs.Prelude.{◌≡◌, true};

@@ -2,6 +2,9 @@
 //
 // A session is taken and returned by value: it holds the command that it waits for, and the toolchain has no reference
 // to an enum that holds a value.
+
+#![tactic(auto)]
+
 mod receiving;
 mod sending;
 

@@ -2,6 +2,9 @@
 // parser of what the module sends, which comes from standard input. The output has each command as it is sent, and
 // under it the effect of each frame that came. The file stdout beside src/ has what request 2 and the maker's documents
 // say, written by hand.
+
+#![tactic(auto)]
+
 use ld2410::{Command, Gate, Parser, ReceiveResult, SendResult, Session};
 use libc::STDIN_FILENO;
 

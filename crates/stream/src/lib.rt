@@ -1,6 +1,9 @@
 // The stream of the LD2410's link: which strings are open and which are whole frames, what a whole frame delivers, and
 // what the counters count. The crate has definitions and laws; its only code tests a length. Each function of this file
 // is empty and never called: its contract pins claims of specs/Claims.antt.
+
+#![tactic(auto)]
+
 mod limit;
 
 ghost use Rattle.stream.specs.Claims.{WholeFramed, StrayBytes};

@@ -1,6 +1,9 @@
 // The two tables of the table engine: the class of each byte, and the next state by matching state and class.
 //
 // A constant is built anew wherever it is named. So a feed calls each function once, and lends what it returns.
+
+#![tactic(auto)]
+
 mod class_table;
 
 ghost use Rattle.tables.specs.Matching.{Matching, on_byte};

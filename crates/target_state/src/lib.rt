@@ -1,5 +1,8 @@
 // The target state of a report: which targets the module sees, or the state of its background calibration, and the byte
 // that says so.
+
+#![tactic(auto)]
+
 ghost use Rattle.std.specs.Prelude.{◌≡◌, ◌≤◌};
 ghost use Rattle.target_state.specs.State.{state_of, byte_of, state_max, moving_of, stationary_of, present_of};
 ghost use Rattle.target_state.specs.Claims.{Calibration};

@@ -1,6 +1,9 @@
 // Tries the readers and the writers against the documents: it reads the bytes that document 01 and the maker's
 // documents print, writes the commands that they print, reads and writes again the states of request 3, and writes a
 // line for each. The file stdout beside src/ has what the documents say of them, written by hand.
+
+#![tactic(auto)]
+
 use ld2410::{Baud, Command, Gate, word};
 
 mod acks;

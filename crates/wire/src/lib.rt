@@ -1,5 +1,8 @@
 // What both directions of the LD2410's serial link share: its sizes, the two kinds of frames, the command words, and a
 // value for each gate.
+
+#![tactic(auto)]
+
 mod byte_string;
 mod kinds;
 mod number;

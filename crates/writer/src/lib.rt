@@ -1,4 +1,7 @@
 // A whole frame put into the caller's buffer, and the answer of every writer of frames.
+
+#![tactic(auto)]
+
 mod puts;
 
 ghost use Rattle.std.specs.Prelude.{◌≡◌, false, length};
