@@ -27,7 +27,7 @@ use wire::{ACK_BIT, MaybeU16, le16, word};
 
 // An acknowledgement from the module. Its word is the command's, with the ACK bit cleared, so that it compares directly
 // with the constants of `wire::word`. Reading sets `ok` exactly if the status is 0.
-#[derive(Drop)]
+#[derive(Clone, Copy)]
 pub struct Ack {
     pub payload: Span,
     pub word: u16,
@@ -36,21 +36,21 @@ pub struct Ack {
 }
 
 // The acknowledgement that data are read as, or the first check that fails.
-#[derive(Drop)]
+#[derive(Clone, Copy)]
 pub enum CheckedAck {
     Ok(Ack),
     Failed(Check),
 }
 
 // The acknowledgement that data are read as, or the refusal that the first failed check gives.
-#[derive(Drop)]
+#[derive(Clone, Copy)]
 pub enum AckResult {
     Ok(Ack),
     Err(Error),
 }
 
 // The payload's span in an awaited acknowledgement, or the refusal.
-#[derive(Drop)]
+#[derive(Clone, Copy)]
 pub enum SpanResult {
     Ok(Span),
     Err(Error),

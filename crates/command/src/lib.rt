@@ -20,7 +20,7 @@ use wire::word;
 use writer::WriteResult;
 
 // A command to the module. Every one but `EnableConfig` is sent between `EnableConfig` and `EndConfig`.
-#[derive(Drop)]
+#[derive(Clone, Copy)]
 pub enum Command {
     // Enter configuration mode.
     EnableConfig,

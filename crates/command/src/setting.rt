@@ -12,7 +12,7 @@ const MIN_FARTHEST: u8 = 2;
 const MAX_SENSITIVITY: u8 = 100;
 
 // The gate that a `Command::SetSensitivity` addresses.
-#[derive(Drop)]
+#[derive(Clone, Copy)]
 pub enum Gate {
     Index(u8),
     All,
@@ -20,7 +20,7 @@ pub enum Gate {
 
 // Serial baud rate, by the module's selection index, 1 to 8. The factory default is `B256000`; a change takes effect
 // after `Command::Restart`.
-#[derive(Drop)]
+#[derive(Clone, Copy)]
 pub enum Baud {
     B9600,
     B19200,
@@ -33,7 +33,7 @@ pub enum Baud {
 }
 
 // A baud rate, or none for an index that the module does not know.
-#[derive(Drop)]
+#[derive(Clone, Copy)]
 pub enum MaybeBaud {
     Some(Baud),
     None,

@@ -34,7 +34,7 @@ const SECOND: usize = 16;
 const THIRD: usize = 22;
 
 // The command that was read, or the refusal.
-#[derive(Drop)]
+#[derive(Clone, Copy)]
 pub enum CommandResult {
     Ok(Command),
     Err(Error),

@@ -41,7 +41,7 @@ pub fn feed_all(parser: Parser, bytes: &[u8]) -> Parser
 }
 
 // The parser after a read, and whether more may come.
-#[derive(Drop)]
+#[derive(Clone, Copy)]
 struct Turn {
     parser: Parser,
     more: bool,
@@ -91,7 +91,7 @@ pub fn read_all(fd: i32) -> Parser
 }
 
 // The numbers of a line, in its order.
-#[derive(Drop)]
+#[derive(Clone, Copy)]
 pub struct Counts {
     pub frames: u64,
     pub resyncs: u64,

@@ -16,7 +16,7 @@ use wire::{FRAMING, Kind, header_of, tail_of};
 use writer::WriteResult;
 
 // What follows a command's word: nothing, a two-byte number, or the values of three records.
-#[derive(Drop)]
+#[derive(Clone, Copy)]
 pub enum Value {
     None,
     Number(u16),

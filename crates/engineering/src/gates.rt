@@ -5,14 +5,14 @@ ghost use Rattle.engineering.specs.Gates.{gates_at};
 use wire::{GATES, MaybeU8, byte_at};
 
 // The numbers of gates that a block reports: `max_moving_gate` and `max_stationary_gate`, each plus one.
-#[derive(Drop)]
+#[derive(Clone, Copy)]
 pub struct Gates {
     pub moving: u8,
     pub stationary: u8,
 }
 
 // The gate counts, if the block fits.
-#[derive(Drop)]
+#[derive(Clone, Copy)]
 pub enum MaybeGates {
     Some(Gates),
     None,

@@ -19,14 +19,14 @@ use wire::{GATES, GateValues, MAX_EXTRA, MaybeU8, copy_prefix, gate_array, gate_
 const EXTRA_LEN_MAX: usize = 255;
 
 // Reserved bytes; the first `count` are valid.
-#[derive(Drop)]
+#[derive(Clone, Copy)]
 pub struct ExtraBytes {
     pub bytes: [u8; MAX_EXTRA],
     pub count: usize,
 }
 
 // The engineering block of a report: energies by gate, and the first reserved bytes.
-#[derive(Drop)]
+#[derive(Clone, Copy)]
 pub struct Engineering {
     // How many gates are reported, `max_moving_gate` and `max_stationary_gate` plus one: as many energies are valid.
     pub moving_gates: u8,
@@ -41,7 +41,7 @@ pub struct Engineering {
 }
 
 // The fields of an engineering block; or the check that fails, beside fields that are all 0.
-#[derive(Drop)]
+#[derive(Clone, Copy)]
 pub struct CheckedEngineering {
     pub failed: MaybeCheck,
     pub engineering: Engineering,

@@ -14,7 +14,7 @@ use scan::{Ended, Scan, Scanned, Stats, Stepped};
 use wire::{Kind, MAX_FRAME, min};
 
 // The scan and the counters after a byte was fed, and the frame that it completed, if any.
-#[derive(Drop)]
+#[derive(Clone, Copy)]
 pub struct Moved {
     pub scan: Scan,
     pub stats: Stats,
@@ -22,14 +22,14 @@ pub struct Moved {
 }
 
 // The number of bytes that a slice feed took, and the frame that they completed, if any.
-#[derive(Drop)]
+#[derive(Clone, Copy)]
 pub struct Taken {
     pub count: usize,
     pub frame: Frame,
 }
 
 // The scan and the counters after a slice was fed, and its answer.
-#[derive(Drop)]
+#[derive(Clone, Copy)]
 pub struct MovedSlice {
     pub scan: Scan,
     pub stats: Stats,

@@ -9,7 +9,7 @@ use wire::{FRAMING, Kind, MaybeKind, MaybeU16, bytes_eq, family_of, le16, tail_o
 pub const DATA_START: usize = FRAMING - 4;
 
 // The first check that fails, or the frame's kind and the place where its data end.
-#[derive(Drop)]
+#[derive(Clone, Copy)]
 pub enum Envelope {
     Failed(Check),
     Data(Kind, usize),

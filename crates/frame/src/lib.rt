@@ -22,7 +22,7 @@ use report::{Report, checked_report, no_report};
 use wire::Kind;
 
 // What a frame holds.
-#[derive(Drop)]
+#[derive(Clone, Copy)]
 pub enum FrameKind {
     None,
     Report,
@@ -30,7 +30,7 @@ pub enum FrameKind {
 }
 
 // A frame: a report or an acknowledgement, the other one all 0; with no frame both are.
-#[derive(Drop)]
+#[derive(Clone, Copy)]
 pub struct Frame {
     pub ack: Ack,
     pub report: Report,
@@ -38,14 +38,14 @@ pub struct Frame {
 }
 
 // A frame; or the first check that fails, beside no frame.
-#[derive(Drop)]
+#[derive(Clone, Copy)]
 pub struct CheckedFrame {
     pub failed: MaybeCheck,
     pub frame: Frame,
 }
 
 // A frame; or the refusal that the first failed check gives, beside no frame.
-#[derive(Drop)]
+#[derive(Clone, Copy)]
 pub struct FrameResult {
     pub outcome: Outcome,
     pub frame: Frame,

@@ -40,7 +40,7 @@ const HEADER: [u8; 4] = [0xAA, 0xFF, 0x03, 0x00];
 const TAIL: [u8; 2] = [0x55, 0xCC];
 
 // A frame's targets; or the refusal, beside targets whose fields are all 0.
-#[derive(Drop)]
+#[derive(Clone, Copy)]
 pub struct TargetsResult {
     pub outcome: Outcome,
     pub targets: [Target; TARGETS],

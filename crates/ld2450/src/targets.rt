@@ -9,7 +9,7 @@ use wire::bytes_eq;
 use writer::u16_bytes;
 
 // A target; if it is absent, every field is 0.
-#[derive(Drop)]
+#[derive(Clone, Copy)]
 pub struct Target {
     pub present: bool,
     // Its position, in millimetres.

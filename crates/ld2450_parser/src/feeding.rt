@@ -8,7 +8,7 @@ use crate::steps::{or_reset, step};
 use ld2450::{HELD_LEN, no_targets, read_held};
 
 // The new `at` and counters after a byte was fed, and the targets of the frame that it completed, if any.
-#[derive(Drop)]
+#[derive(Clone, Copy)]
 pub(crate) struct Moved {
     pub at: usize,
     pub stats: Stats,
@@ -16,7 +16,7 @@ pub(crate) struct Moved {
 }
 
 // The new `at` and counters after a slice was fed, and its answer.
-#[derive(Drop)]
+#[derive(Clone, Copy)]
 pub(crate) struct MovedSlice {
     pub at: usize,
     pub stats: Stats,

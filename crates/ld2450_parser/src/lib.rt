@@ -22,7 +22,7 @@ ghost use Rattle.ld2450_parser.specs.Pieces.{DeliversWhole, StrayBytes, BrokenFr
 use steps::{hunting, or_reset};
 
 // The counters: whole frames; broken starts; stray bytes and the bytes of broken starts.
-#[derive(Drop)]
+#[derive(Clone, Copy)]
 pub struct Stats {
     pub frames: u64,
     pub resyncs: u64,
@@ -31,7 +31,7 @@ pub struct Stats {
 
 // A streaming parser. `at` is how many bytes of a frame are pending, and the buffer has the target bytes among them;
 // its other bytes have no meaning. `at` above 29 is out of range, and handled as if reset came first.
-#[derive(Drop)]
+#[derive(Clone, Copy)]
 pub struct Parser {
     pub buf: [u8; HELD_LEN],
     pub at: usize,
@@ -39,27 +39,27 @@ pub struct Parser {
 }
 
 // The targets of a frame, if there is one; else every field is 0.
-#[derive(Drop)]
+#[derive(Clone, Copy)]
 pub struct MaybeTargets {
     pub there: bool,
     pub targets: [Target; TARGETS],
 }
 
 // The number of bytes that a slice feed took, and the targets of the frame that they completed, if any.
-#[derive(Drop)]
+#[derive(Clone, Copy)]
 pub struct Taken {
     pub count: usize,
     pub frame: MaybeTargets,
 }
 
 // A parser handed back, with the answer.
-#[derive(Drop)]
+#[derive(Clone, Copy)]
 pub struct Fed {
     pub parser: Parser,
     pub answer: MaybeTargets,
 }
 
-#[derive(Drop)]
+#[derive(Clone, Copy)]
 pub struct FedSlice {
     pub parser: Parser,
     pub answer: Taken,

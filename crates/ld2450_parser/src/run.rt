@@ -7,7 +7,7 @@ use crate::steps::step;
 use ld2450::HELD_LEN;
 
 // The new `at` and counters after a run, whether it ended a frame, and how many bytes it took.
-#[derive(Drop)]
+#[derive(Clone, Copy)]
 pub(crate) struct Ran {
     pub at: usize,
     pub stats: Stats,

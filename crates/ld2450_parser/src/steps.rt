@@ -8,7 +8,7 @@ use ld2450::HELD_LEN;
 use wire::bump;
 
 // The new `at` and counters after a byte, and whether it ended a frame.
-#[derive(Drop)]
+#[derive(Clone, Copy)]
 pub(crate) struct Stepped {
     pub at: usize,
     pub stats: Stats,

@@ -4,7 +4,7 @@ ghost use Rattle.load_writer.specs.Draw.{draw_of};
 ghost use Rattle.load_writer.specs.Drawn.{nine_drawn};
 
 // Nine bytes that were drawn, and the number that the generator holds then.
-#[derive(Drop)]
+#[derive(Clone, Copy)]
 pub(crate) struct Nine {
     pub bytes: [u8; 9],
     pub next: u32,

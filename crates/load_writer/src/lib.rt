@@ -20,14 +20,14 @@ use writer::Placed;
 pub const MAX_LOAD: usize = 65_536;
 
 // The refusal of `write_load`.
-#[derive(Drop)]
+#[derive(Clone, Copy)]
 pub enum LoadError {
     // 9: the seed is zero.
     SeedZero,
 }
 
 // The answer of `write_load`: the filled length, or the refusal.
-#[derive(Drop)]
+#[derive(Clone, Copy)]
 pub enum LoadResult {
     Ok(usize),
     Err(LoadError),

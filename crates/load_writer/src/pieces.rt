@@ -11,14 +11,14 @@ use writer::{Placed, put};
 const REPORT_LEN: usize = 23;
 
 // A basic report that was drawn, and the number that the generator holds then.
-#[derive(Drop)]
+#[derive(Clone, Copy)]
 struct DrawnReport {
     bytes: [u8; REPORT_LEN],
     next: u32,
 }
 
 // Where a piece was put, and the number that the generator holds after it.
-#[derive(Drop)]
+#[derive(Clone, Copy)]
 pub(crate) struct PutPiece {
     pub placed: Placed,
     pub next: u32,

@@ -7,14 +7,14 @@ ghost use Rattle.parser.specs.Feed.{feed_of, feed_slice_of};
 use super::{Fed, FedSlice, Parser};
 
 // The answers of the two engines to one byte, each with the parser and its counters afterwards.
-#[derive(Drop)]
+#[derive(Clone, Copy)]
 struct BothFed {
     branches: Fed,
     tables: Fed,
 }
 
 // The answers of the two engines to a slice.
-#[derive(Drop)]
+#[derive(Clone, Copy)]
 struct BothFedSlice {
     branches: FedSlice,
     tables: FedSlice,

@@ -21,7 +21,7 @@ ghost use Rattle.parser.specs.Feed.{fresh, unfinished_of};
 ghost use Rattle.parser.specs.Claims.{FromHere, Accounted, Determined, TooSoon};
 
 // A streaming parser. The buffer begins with the data bytes of the frame in progress, or of the frame that just ended.
-#[derive(Drop)]
+#[derive(Clone, Copy)]
 pub struct Parser {
     pub buf: [u8; MAX_FRAME],
     pub scan: Scan,
@@ -29,13 +29,13 @@ pub struct Parser {
 }
 
 // A parser handed back, with the answer.
-#[derive(Drop)]
+#[derive(Clone, Copy)]
 pub struct Fed {
     pub parser: Parser,
     pub answer: Frame,
 }
 
-#[derive(Drop)]
+#[derive(Clone, Copy)]
 pub struct FedSlice {
     pub parser: Parser,
     pub answer: Taken,

@@ -23,7 +23,7 @@ ghost use Rattle.std.specs.Prelude.{◌<◌, ◌≤◌, length};
 
 // The cost of a way's disturbed streams: how many there were, the frames that they lost, the most that one of them
 // lost, and the largest distance of a lost frame.
-#[derive(Drop)]
+#[derive(Clone, Copy)]
 struct Cost {
     streams: u64,
     lost: u64,
@@ -32,7 +32,7 @@ struct Cost {
 }
 
 // A parser that was fed a frame, and whether it found the frame.
-#[derive(Drop)]
+#[derive(Clone, Copy)]
 struct FedFrame {
     parser: Parser,
     found: bool,

@@ -7,7 +7,7 @@ use ld2410::Parser;
 
 // A way: the byte at the place is changed to each other byte, or dropped; or each byte, or each run of noise, is put in
 // before it.
-#[derive(Drop)]
+#[derive(Clone, Copy)]
 pub enum Way {
     Changed,
     Dropped,

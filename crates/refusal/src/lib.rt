@@ -7,7 +7,7 @@ ghost use Rattle.refusal.specs.Refusal.{number_of, needed_of, refusal_of};
 ghost use Rattle.refusal.specs.Check.{error_of, outcome_of};
 
 // The refusals of a call.
-#[derive(Drop)]
+#[derive(Clone, Copy)]
 pub enum Error {
     // A layout that does not fit, another command's acknowledgement, a short payload.
     InvalidFormat,
@@ -24,14 +24,14 @@ pub enum Error {
 }
 
 // Success, or a refusal. The value beside a refusal is all 0.
-#[derive(Drop)]
+#[derive(Clone, Copy)]
 pub enum Outcome {
     Ok,
     Err(Error),
 }
 
 // The checks of a frame (F), of a report's data (R) and of an acknowledgement's data (A), in the order of document 01.
-#[derive(Drop)]
+#[derive(Clone, Copy)]
 pub enum Check {
     F1,
     F2,
@@ -50,7 +50,7 @@ pub enum Check {
 }
 
 // The check that failed first, if one did.
-#[derive(Drop)]
+#[derive(Clone, Copy)]
 pub enum MaybeCheck {
     Some(Check),
     None,

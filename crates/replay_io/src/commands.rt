@@ -6,7 +6,7 @@ use crate::argument::{flag_at, u8_at, u16_at};
 use command::{Baud, Command, Gate, MaybeBaud};
 
 // A command, if the bytes are one.
-#[derive(Drop)]
+#[derive(Clone, Copy)]
 pub enum MaybeCommand {
     Some(Command),
     None,

@@ -17,7 +17,7 @@ pub const HEAD: usize = 5;
 const LONGEST: u32 = 70_000;
 
 // What comes next in the input.
-#[derive(Drop)]
+#[derive(Clone, Copy)]
 pub enum Found {
     // A whole case.
     Case,
@@ -31,7 +31,7 @@ pub enum Found {
 
 // The next case: the bytes of the buffer from `start` to `end`, of the `read` bytes that were read. If no case is
 // found, it has no bytes.
-#[derive(Drop)]
+#[derive(Clone, Copy)]
 pub struct Next {
     pub start: usize,
     pub end: usize,

@@ -12,7 +12,7 @@ use wire::min;
 const LONGEST: usize = 255;
 
 // The session after an event, and how many bytes of the output are taken.
-#[derive(Drop)]
+#[derive(Clone, Copy)]
 struct Told {
     session: Session,
     taken: usize,

@@ -18,21 +18,21 @@ use refusal::{Error, Outcome};
 use wire::{MaybeU8, MaybeU16, MaybeU32, byte_at, copy_prefix, le16, le32};
 
 // The reply to the command `ENABLE_CONFIG`.
-#[derive(Drop)]
+#[derive(Clone, Copy)]
 pub struct EnableConfig {
     pub protocol_version: u16,
     // The size of the module's receive buffer, in bytes.
     pub buffer_size: u16,
 }
 
-#[derive(Drop)]
+#[derive(Clone, Copy)]
 pub enum EnableConfigResult {
     Ok(EnableConfig),
     Err(Error),
 }
 
 // The reply to the command `READ_FIRMWARE`.
-#[derive(Drop)]
+#[derive(Clone, Copy)]
 pub struct FirmwareVersion {
     // 0000 on the LD2410, 0100 on the LD2410C.
     pub firmware_type: u16,
@@ -42,18 +42,18 @@ pub struct FirmwareVersion {
     pub minor: u32,
 }
 
-#[derive(Drop)]
+#[derive(Clone, Copy)]
 pub enum FirmwareVersionResult {
     Ok(FirmwareVersion),
     Err(Error),
 }
 
 // The reply to the command `READ_MAC`: six address bytes in transmission order.
-#[derive(Drop)]
+#[derive(Clone, Copy)]
 pub struct Mac(pub [u8; 6]);
 
 // The address; beside a refusal it is all 0.
-#[derive(Drop)]
+#[derive(Clone, Copy)]
 pub struct MacResult {
     pub outcome: Outcome,
     pub mac: Mac,

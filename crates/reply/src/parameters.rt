@@ -13,7 +13,7 @@ use wire::{GATES, GateValues, MaybeU16, gate_array, gate_values, le16, min};
 const MOVING_AT: usize = 4;
 
 // The reply to the command `READ_PARAMETERS`.
-#[derive(Drop)]
+#[derive(Clone, Copy)]
 pub struct Parameters {
     // The highest gate that the module has.
     pub max_gate: u8,
@@ -28,7 +28,7 @@ pub struct Parameters {
 }
 
 // The parameters; beside a refusal every field of them is 0.
-#[derive(Drop)]
+#[derive(Clone, Copy)]
 pub struct ParametersResult {
     pub outcome: Outcome,
     pub parameters: Parameters,

@@ -8,7 +8,7 @@ use wire::{GATES, MaybeU8, byte_at};
 const HEAD_BYTE: u8 = 0xAA;
 
 // The farthest gate that the module has, and the configured ones.
-#[derive(Drop)]
+#[derive(Clone, Copy)]
 pub struct ParametersHead {
     pub max_gate: u8,
     pub max_moving_gate: u8,
@@ -16,7 +16,7 @@ pub struct ParametersHead {
 }
 
 // The head, if a parameters payload can begin with it.
-#[derive(Drop)]
+#[derive(Clone, Copy)]
 pub enum MaybeParametersHead {
     Some(ParametersHead),
     None,

@@ -6,7 +6,7 @@ use wire::{MaybeU8, MaybeU16, byte_at, le16};
 
 // The nine basic bytes of a report, as they are sent: state; moving distance and energy; stationary distance and
 // energy; detection distance.
-#[derive(Drop)]
+#[derive(Clone, Copy)]
 pub struct Basic {
     pub state: u8,
     pub moving_distance_cm: u16,
@@ -17,7 +17,7 @@ pub struct Basic {
 }
 
 // The basic bytes, if all are present.
-#[derive(Drop)]
+#[derive(Clone, Copy)]
 pub enum MaybeBasic {
     Some(Basic),
     None,

@@ -14,14 +14,14 @@ pub const REPORT_HEAD: u8 = 0xAA;
 pub const REPORT_TRAILER: [u8; 2] = [0x55, 0x00];
 
 // The type of report data, and their basic bytes.
-#[derive(Drop)]
+#[derive(Clone, Copy)]
 pub struct Layout {
     pub data_type: u8,
     pub basic: Basic,
 }
 
 // The fields of the layout, or the first check that fails.
-#[derive(Drop)]
+#[derive(Clone, Copy)]
 pub enum CheckedLayout {
     Ok(Layout),
     Failed(Check),

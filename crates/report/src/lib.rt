@@ -33,21 +33,21 @@ const DATA_TYPE_ENGINEERING: u8 = 0x01;
 const DATA_TYPE_BASIC: u8 = 0x02;
 
 // One detected target: its distance and energy.
-#[derive(Drop)]
+#[derive(Clone, Copy)]
 pub struct Target {
     pub distance_cm: u16,
     pub energy: u8,
 }
 
 // A target, if there is one.
-#[derive(Drop)]
+#[derive(Clone, Copy)]
 pub enum MaybeTarget {
     Some(Target),
     None,
 }
 
 // One periodic report from the module. `engineering` is all 0 if `has_engineering` is off.
-#[derive(Drop)]
+#[derive(Clone, Copy)]
 pub struct Report {
     pub moving_distance_cm: u16,
     pub stationary_distance_cm: u16,
@@ -60,14 +60,14 @@ pub struct Report {
 }
 
 // The report that data are read as; or the first check that fails, beside a report that is all 0.
-#[derive(Drop)]
+#[derive(Clone, Copy)]
 pub struct CheckedReport {
     pub failed: MaybeCheck,
     pub report: Report,
 }
 
 // The same, with the refusal that the check gives instead of the check.
-#[derive(Drop)]
+#[derive(Clone, Copy)]
 pub struct ReportResult {
     pub outcome: Outcome,
     pub report: Report,

@@ -17,7 +17,7 @@ use stream::in_range;
 use wire::Kind;
 
 // Where in a frame the parser is.
-#[derive(Drop)]
+#[derive(Clone, Copy)]
 pub enum State {
     // Matching header bytes; `matched` counts them.
     Header,
@@ -30,7 +30,7 @@ pub enum State {
 }
 
 // The state with its numbers. Those that a state does not use are 0; in the tail `pos` is `len`.
-#[derive(Drop)]
+#[derive(Clone, Copy)]
 pub struct Scan {
     pub state: State,
     pub kind: Kind,

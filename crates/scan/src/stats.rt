@@ -3,7 +3,7 @@ use crate::Scan;
 use wire::Kind;
 
 // Parser counters. Each stops at the largest number of 64 bits.
-#[derive(Drop)]
+#[derive(Clone, Copy)]
 pub struct Stats {
     // Complete, decoded frames delivered.
     pub frames: u64,
@@ -16,14 +16,14 @@ pub struct Stats {
 }
 
 // Whether a byte ended a frame: its kind and the length of its data, which are at the front of the buffer.
-#[derive(Drop)]
+#[derive(Clone, Copy)]
 pub enum Ended {
     Frame(Kind, usize),
     Nothing,
 }
 
 // The scan and the counters after a byte, beside the buffer, and whether it ended a frame.
-#[derive(Drop)]
+#[derive(Clone, Copy)]
 pub struct Stepped {
     pub scan: Scan,
     pub stats: Stats,
@@ -32,7 +32,7 @@ pub struct Stepped {
 
 // The scan and the counters after a slice, beside the buffer, whether it ended a frame, and how many of its bytes were
 // taken.
-#[derive(Drop)]
+#[derive(Clone, Copy)]
 pub struct Scanned {
     pub scan: Scan,
     pub stats: Stats,

@@ -21,7 +21,7 @@ use refusal::Error;
 use wire::{MaybeU16, word};
 
 // The state of the conversation. `Waiting` has the command whose acknowledgement it waits for.
-#[derive(Drop)]
+#[derive(Clone, Copy)]
 pub enum Session {
     Closed,
     Opening,
@@ -31,7 +31,7 @@ pub enum Session {
 }
 
 // The reasons why a command is not sent.
-#[derive(Drop)]
+#[derive(Clone, Copy)]
 pub enum SessionError {
     // 7: a command other than `EnableConfig` in a closed session.
     NotOpen,
@@ -42,28 +42,28 @@ pub enum SessionError {
 }
 
 // The number of bytes of the command's frame in the buffer, or why it is not sent.
-#[derive(Drop)]
+#[derive(Clone, Copy)]
 pub enum SendResult {
     Ok(usize),
     Err(SessionError),
 }
 
 // The session after a command, and the answer.
-#[derive(Drop)]
+#[derive(Clone, Copy)]
 pub struct Sent {
     pub session: Session,
     pub answer: SendResult,
 }
 
 // The effect of a frame: it passed through, or it ended the wait, with `ok` on or off.
-#[derive(Drop)]
+#[derive(Clone, Copy)]
 pub enum ReceiveResult {
     Passed,
     Ended(bool),
 }
 
 // The session after a frame, and the answer.
-#[derive(Drop)]
+#[derive(Clone, Copy)]
 pub struct Received {
     pub session: Session,
     pub answer: ReceiveResult,

@@ -11,7 +11,7 @@ use libc::STDIN_FILENO;
 mod text;
 
 // The state of the conversation: the session, the parser, and how many of the module's bytes are taken.
-#[derive(Drop)]
+#[derive(Clone, Copy)]
 struct Turn {
     parser: Parser,
     session: Session,

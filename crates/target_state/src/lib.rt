@@ -8,7 +8,7 @@ ghost use Rattle.target_state.specs.State.{state_of, byte_of, state_max, moving_
 ghost use Rattle.target_state.specs.Claims.{Calibration};
 
 // The targets that the module sees, or the state of its background calibration: the state byte of a report.
-#[derive(Drop)]
+#[derive(Clone, Copy)]
 pub enum TargetState {
     // No target.
     None,

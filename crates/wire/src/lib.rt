@@ -35,21 +35,21 @@ pub const MAX_EXTRA: usize = 8;
 pub const ACK_BIT: u16 = 0x0100;
 
 // The kind of a frame, which its header announces.
-#[derive(Drop)]
+#[derive(Clone, Copy)]
 pub enum Kind {
     Report,
     Command,
 }
 
 // A kind, if there is one.
-#[derive(Drop)]
+#[derive(Clone, Copy)]
 pub enum MaybeKind {
     Some(Kind),
     None,
 }
 
 // A value for each gate; the first `count` are valid.
-#[derive(Drop)]
+#[derive(Clone, Copy)]
 pub struct GateValues {
     pub bytes: [u8; GATES],
     pub count: usize,

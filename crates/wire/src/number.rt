@@ -9,19 +9,19 @@ ghost use Rattle.wire.specs.Counter.{bumped};
 const COUNTER_MAX: u64 = 18_446_744_073_709_551_615;
 
 // A number read from the wire, if all its bytes are present.
-#[derive(Drop)]
+#[derive(Clone, Copy)]
 pub enum MaybeU8 {
     Some(u8),
     None,
 }
 
-#[derive(Drop)]
+#[derive(Clone, Copy)]
 pub enum MaybeU16 {
     Some(u16),
     None,
 }
 
-#[derive(Drop)]
+#[derive(Clone, Copy)]
 pub enum MaybeU32 {
     Some(u32),
     None,

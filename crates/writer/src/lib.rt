@@ -16,7 +16,7 @@ use wire::{FRAMING, Kind, header_of, tail_of};
 const MAX_LENGTH: usize = 65_535;
 
 // The number of bytes written, or the refusal.
-#[derive(Drop)]
+#[derive(Clone, Copy)]
 pub enum WriteResult {
     Ok(usize),
     Err(Error),

@@ -8,7 +8,7 @@ ghost use Rattle.writer.specs.Put.{placed, put_in};
 use wire::copy_at;
 
 // The place after the bytes of a put, or that they do not fit.
-#[derive(Drop)]
+#[derive(Clone, Copy)]
 pub enum Placed {
     End(usize),
     TooSmall,
