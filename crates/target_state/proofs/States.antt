@@ -82,13 +82,13 @@ calibration b = record {
 
 -- What the contracts of the two conversions promise.
 abbrev Decoded : ℕ → TargetState → Type 0
-Decoded b t = (t ≡ state_of b) × ((b ≤ state_max → byte_of t ≡ b) × Calibration b t)
+Decoded b t = record { decoded : t ≡ state_of b; kept : b ≤ state_max → byte_of t ≡ b; calibration : Calibration b t }
 
 abbrev Encoded : TargetState → ℕ → Type 0
-Encoded t b = (b ≡ byte_of t) × ((b ≤ state_max) × (state_of b ≡ t))
+Encoded t b = record { encoded : b ≡ byte_of t; kept : (b ≤ state_max) × (state_of b ≡ t) }
 
 pub read_as : (b : ℕ) {t : TargetState} → t ≡ state_of b → Decoded b t
-read_as b e = (e, rw e (λ h. byte_kept b h, calibration b))
+read_as b e = record { decoded = e; kept = rw e (λ h. byte_kept b h); calibration = rw e (calibration b) }
 
 pub read_bits : (b : ℕ) {t : TargetState} → (Calibrating b → ⊥) → t ≡ by_bits (b % 4) → Decoded b t
 read_bits b h e = read_as b (e ∙ sym (state_bits b h))
@@ -97,4 +97,4 @@ pub read_both : (b : ℕ) → (Calibrating b → ⊥) → 3 ≤ b % 4 → Decode
 read_both b h m = read_bits b h (sym (bits_both (b % 4) m))
 
 pub sent_as_lem : {t : TargetState} {b : ℕ} → b ≡ byte_of t → Encoded t b
-sent_as_lem {t} e = (e, rw e (byte_most t, state_byte_lem t))
+sent_as_lem {t} e = record { encoded = e; kept = rw e (byte_most t, state_byte_lem t) }

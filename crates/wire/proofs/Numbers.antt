@@ -110,7 +110,11 @@ module _ (w : Width) (s : List ℕ) (i : ℕ) where
 
   read_answered : read_at w s i ≡ answered (there w) (missing w) (number_at (size w) s i)
   unfolding byte_at le16_at le32_at
-  read_answered = elim w [ one ↦ refl | two ↦ refl | four ↦ refl ]
+  read_answered = elim w as (λ v. read_at v s i ≡ answered (there v) (missing v) (number_at (size v) s i)) [
+    | one ↦ refl
+    | two ↦ refl
+    | four ↦ refl
+  ]
 
   read_cond : read_at w s i ≡ cond inside (there w value) (missing w)
   read_cond = read_answered ∙ answered_cond w inside value
