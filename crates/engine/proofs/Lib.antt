@@ -40,23 +40,3 @@ pub mod Until
 pub mod Still
 -- The claims about a lawful engine, together.
 pub mod Claimed
--- Facts of a contract, proved from no resource.
-pub mod Facts
--- From the walk of a function's MIR to its routine.
-pub mod Routines
--- A struct field of a plain type.
-pub mod PlainField
--- The type of a parser lent by `&mut`, and such a parser in memory.
-pub mod LentType
--- The parser's buffer, lent for a call.
-pub mod LentBuffer
--- A feed of a lent parser: its parts and its contract.
-pub mod LentFeed
--- The feed's code, its call of the step, and its exit.
-pub mod LentCall
--- The walk of the feed: it meets its contract.
-pub mod LentWalk
--- A reset of a lent parser: its contract, its code and its call.
-pub mod LentReset
--- The walk of the reset: it meets its contract.
-pub mod LentResetWalk

@@ -2,8 +2,7 @@
 use Rattle.engine.proofs.Runs.{history_append, final_append}
 use Rattle.engine.proofs.Stretches.{stretches_joined, stretch_of}
 use Rattle.engine.specs.Claims.{AnyCall, HistoryAppend, StretchesJoined, StretchOfCall}
-use Rattle.engine.proofs.call_claims.Statement.{statement}
-use Rattle.engine.proofs.call_claims.Tie as tie
+use Rattle.engine.proofs.call_claims.Goals as goal
 
 any_call : AnyCall
 unfolding AnyCall
@@ -21,8 +20,5 @@ stretch_one : StretchOfCall
 unfolding StretchOfCall
 stretch_one p before d after h = stretch_of before p d after h
 
-returns : tie.Need-returns
-returns c = (any_call, (appended, (stretches_all, stretch_one)))
-
-pub call_claims_spec : {M : Type 1} → statement M
-call_claims_spec = tie.close (tie.spec returns)
+pub returns : goal.returns
+returns c = record { any = any_call; append = appended; joined = stretches_all; stretch = stretch_one }
