@@ -39,9 +39,12 @@ pub record Agreed {A : Type 0} (C : Codec A) (v : A) (e : Error) (good : Bool) :
 -- What the contract of a writer asks: its answer, its buffer, the causes, and the round trip.
 abbrev pub ShownRound : {A : Type 0} → Codec A → A → Bool → List ℕ → WriteResult → List ℕ → Type 0
 ShownRound C v good out r left =
-    (r ≡ writes C v out)
-    × ((left ≡ leaves C v out)
-    × (WriteCauses C.number (good ≡ false) (C.frame v) (length out) r × RoundTrip C v))
+    record {
+      told : r ≡ writes C v out;
+      left : left ≡ leaves C v out;
+      causes : WriteCauses C.number (good ≡ false) (C.frame v) (length out) r;
+      round : RoundTrip C v;
+    }
 
 module _ {A : Type 0} {C : Codec A} {v : A} {e : Error} {good : Bool} (h : Agreed C v e good) where
   read_back : (out : List ℕ) (n : ℕ) → writes C v out ≡ Ok n → Written C v (take n (leaves C v out))
@@ -83,7 +86,12 @@ module _ {A : Type 0} {C : Codec A} {v : A} {e : Error} {good : Bool} (h : Agree
       → ShownRound C v good out r left
   round_shown out left w =
       let x = shown e h.apart h.some good (C.frame v) out left w in
-      (rw h.refused w.0, (rw h.refused w.1, (rw h.number x.1.1, round_trip)))
+      record {
+        told = rw h.refused w.0;
+        left = rw h.refused w.1;
+        causes = rw h.number x.causes;
+        round = round_trip;
+      }
 
   -- What a writer may do: refuse the value; or, if it is good, frame its data d, which the code has as b.
   pub round_refused : (out : List ℕ) → good ≡ false → ShownRound C v good out (Err e) out
@@ -93,8 +101,10 @@ module _ {A : Type 0} {C : Codec A} {v : A} {e : Error} {good : Bool} (h : Agree
       → good ≡ true → b ≡ d → Shown Unrepresentable (framable b) (framed k b) out r left
       → ShownRound C v good out r left
   round_framed k d out b left f l g q s =
-      let x = rw (q, le-leb (length d) 65535 l) at s in
-      round_shown out left (rw (g, f) (x.0, x.1.0))
+      let e = le-leb (length d) 65535 l in
+      let told = rw (q, e) at s.told in
+      let kept = rw (q, e) at s.left in
+      round_shown out left (rw (g, f) (told, kept))
 
   -- Or, if it is good, write its frame without `put_frame`.
   pub round_wrote : (out left : List ℕ) {r : WriteResult} → good ≡ true → Wrote none (C.frame v) out r left

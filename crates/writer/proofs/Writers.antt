@@ -113,9 +113,13 @@ module _ (e : Error) (e-apart : number_of e ≡ 4 → ⊥) (e-some : number_of e
 -- What the contract of such a writer asks: its answer, its buffer, and the causes, which follow from these.
 abbrev pub Shown : Error → Bool → List ℕ → List ℕ → WriteResult → List ℕ → Type 0
 Shown e good f out r left =
-    (r ≡ write_result (unless good e) f (length out))
-    × ((left ≡ buffer_after (unless good e) f out) × WriteCauses (number_of e) (good ≡ false) f (length out) r)
+    record {
+      told : r ≡ write_result (unless good e) f (length out);
+      left : left ≡ buffer_after (unless good e) f out;
+      causes : WriteCauses (number_of e) (good ≡ false) f (length out) r;
+    }
 
 pub shown : (e : Error) → (number_of e ≡ 4 → ⊥) → (number_of e ≡ 0 → ⊥) → (good : Bool) (f out left : List ℕ)
     {r : WriteResult} → Wrote (unless good e) f out r left → Shown e good f out r left
-shown e a b good f out left h = (h.0, (h.1, rw h.0 (write_causes e a b f (length out) good)))
+shown e a b good f out left h =
+    record { told = h.0; left = h.1; causes = rw h.0 (write_causes e a b f (length out) good) }
