@@ -16,7 +16,6 @@ use Rattle.wire.specs.declared.number.MaybeU8.TheVariants.{Some, None}
 use Rattle.engineering.specs.Gates.{gates_fit, gates_at}
 use Rattle.engineering.specs.declared.gates.Gates.{Gates}
 use Rattle.engineering.specs.declared.gates.MaybeGates.{MaybeGates}
-use Rattle.engineering.specs.declared.gates.MaybeGates.TheVariants as MaybeGates
 use Rattle.engineering.proofs.Counts.{gates_some, gates_none}
 use Rattle.engineering.specs.Block.{extra_count, engineering_of}
 use Rattle.engineering.specs.Block.{checked_block, no_block, extra_bytes, extra_at}
