@@ -12,7 +12,7 @@ use Rattle.wire.specs.declared.Kind.TheVariants.{Command}
 use Rattle.refusal.specs.declared.Error.TheVariants.{BufferTooSmall}
 use Rattle.writer.specs.declared.WriteResult.{WriteResult}
 use Rattle.writer.specs.declared.WriteResult.TheVariants.{Ok, Err}
-use Rattle.writer.specs.Written.{written}
+use Rattle.writer.specs.Written.{written, write_result, buffer_after}
 use Rattle.writer.proofs.Writers.{Wrote, wrote_short, wrote_whole}
 use Rattle.cursor.specs.Parts.{put_all, end_all, joined}
 use Rattle.cursor.proofs.Parts.{parts_written}
@@ -34,12 +34,24 @@ parts_joined w Of.None = refl
 parts_joined w (Of.Number v) = refl
 parts_joined w (Of.Records a b c) = refl
 
+-- What `put_value` ensures.
+abbrev pub Made : ℕ → Value → List ℕ → WriteResult → List ℕ → Type 0
+Made w v out r left =
+    record {
+      told : r ≡ write_result none (frame_with w v) (length out);
+      left : left ≡ buffer_after none (frame_with w v) out;
+    }
+
+made_of : (w : ℕ) (v : Value) (out left : List ℕ) {r : WriteResult} → Wrote none (frame_with w v) out r left
+    → Made w v out r left
+made_of w v out left h = record { told = h.0; left = h.1 }
+
 module _ (w : ℕ) (v : Value) (out : List ℕ) (n : ℕ) (n-is : n ≡ size_with v) where
   size : n ≡ length (frame_with w v)
   size = n-is ∙ frame_size w v
 
-  pub made_short : length out < n → Wrote none (frame_with w v) out (Err (BufferTooSmall n)) out
-  made_short h = wrote_short (frame_with w v) out n size h
+  pub made_short : length out < n → Made w v out (Err (BufferTooSmall n)) out
+  made_short h = made_of w v out out (wrote_short (frame_with w v) out n size h)
 
   parts_whole : n ≤ length out
       → (put_all out 0 (parts (header Command) (tail Command) w v) ≡ written out (frame_with w v))
@@ -52,10 +64,10 @@ module _ (w : ℕ) (v : Value) (out : List ℕ) (n : ℕ) (n-is : n ≡ size_wit
   -- In a buffer with room for the n bytes needed, putting the parts writes the whole frame.
   pub made_whole : (h t : List ℕ) (k : Value) (left : List ℕ) (r : WriteResult) → n ≤ length out → h ≡ header Command
       → t ≡ tail Command → v ≡ k
-      → (r ≡ whole_at (end_all out 0 (parts h t w k)) n) × (left ≡ put_all out 0 (parts h t w k))
-      → Wrote none (frame_with w v) out r left
-  made_whole h t k left r fits e f g made =
+      → r ≡ whole_at (end_all out 0 (parts h t w k)) n → left ≡ put_all out 0 (parts h t w k)
+      → Made w v out r left
+  made_whole h t k left r fits e f g answer after =
       let all = parts_whole fits in
       let q : parts h t w k ≡ parts (header Command) (tail Command) w v = rw (e, f, g) in
-      let told : r ≡ Ok n = rw (q, all.1, ← size, eq-eqb n n refl) at made.0 in
-      rw told (wrote_whole (frame_with w v) out n left size fits (rw (q, all.0) at made.1))
+      let told : r ≡ Ok n = rw (q, all.1, ← size, eq-eqb n n refl) at answer in
+      made_of w v out left (rw told (wrote_whole (frame_with w v) out n left size fits (rw (q, all.0) at after)))

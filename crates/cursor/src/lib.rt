@@ -18,6 +18,7 @@ use refusal::Error;
 use writer::{Placed, WriteResult, put, put_record, put_u16};
 
 // The caller's slice, the position of the next byte in it, and the bytes needed in all, which a refusal gives.
+#[derive(Drop)]
 struct Cursor<'a> {
     out: &'a mut [u8],
     pos: usize,
