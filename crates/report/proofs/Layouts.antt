@@ -23,7 +23,6 @@ use Rattle.refusal.specs.declared.MaybeCheck.TheVariants.{Some, None}
 use Rattle.report.specs.Basic.{basic_at}
 use Rattle.report.specs.declared.basic.Basic.{Basic}
 use Rattle.report.specs.declared.basic.MaybeBasic.{MaybeBasic}
-use Rattle.report.specs.declared.basic.MaybeBasic.TheVariants as MaybeBasic
 use Rattle.report.proofs.Basics.{basic_some, basic_none}
 use Rattle.report.specs.Layout.{body, block, layout_of}
 use Rattle.report.specs.LayoutCheck.{r4, r6, r7, r8, report_checks, layout_checks, layout_as, checked_layout}

@@ -56,13 +56,23 @@ as_calibrated None s h =
     rw (off.0, off.1) (refl, (refl, refl))
 
 -- The clauses of the contract of `parse`.
-pub parsed_whole : (s : List ℕ) {r : ReportResult} → r ≡ parsed_report s
-    → (r ≡ parsed_report s) × (Causes no_report report_checks s (returned_report r) × Calibrated s r.report)
+abbrev pub ParsedWhole : List ℕ → ReportResult → Type 0
+ParsedWhole s r = record {
+  parsed : r ≡ parsed_report s;
+  causes : Causes no_report report_checks s (returned_report r);
+  calibration : Calibrated s r.report;
+}
+
+pub parsed_whole : (s : List ℕ) {r : ReportResult} → r ≡ parsed_report s → ParsedWhole s r
 unfolding parsed_report checked_report
 parsed_whole s e =
     let o = first_failed report_checks s in
     let told = as_returned o (report_of s) in
-    (e, (rw (e, told) (causes report_checks s no_report (report_of s)), rw e (as_calibrated o s)))
+    record {
+      parsed = e;
+      causes = rw (e, told) (causes report_checks s no_report (report_of s));
+      calibration = rw e (as_calibrated o s);
+    }
 
 -- From the answer k to the layout.
 module _ (s : List ℕ) where

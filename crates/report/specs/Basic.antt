@@ -5,7 +5,6 @@ use Rattle.std.specs.Prelude.{List, cond, ℕ, leb, length, get_or, take, drop}
 use Rattle.wire.specs.Number.{little}
 use Rattle.report.specs.declared.basic.Basic.{Basic}
 use Rattle.report.specs.declared.basic.MaybeBasic.{MaybeBasic}
-use Rattle.report.specs.declared.basic.MaybeBasic.TheVariants as MaybeBasic
 
 -- "nine bytes (state; moving distance, two bytes; energy; stationary distance, two; energy; detection distance, two)"
 abbrev pub basic_of : List ℕ → Basic

@@ -10,7 +10,6 @@ use Rattle.target_state.specs.State.{state_of, moving_of, stationary_of}
 use Rattle.engineering.specs.Block.{engineering_if, no_engineering}
 use Rattle.target_state.specs.declared.TargetState.TheVariants as State
 use Rattle.report.specs.declared.MaybeTarget.{MaybeTarget}
-use Rattle.report.specs.declared.MaybeTarget.TheVariants as MaybeTarget
 use Rattle.report.specs.Basic.{basic_of}
 use Rattle.report.specs.declared.basic.Basic.{Basic}
 use Rattle.report.specs.Layout.{data_type_in, body, block, is_engineering}
