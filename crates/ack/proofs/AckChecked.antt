@@ -90,9 +90,14 @@ module _ (s : List ℕ) where
     checked_read n = rw (word, status.value) (sym (checked_set status.inside (λ e. n (rw word e))))
 
   -- Both clauses of the contract of `parse`.
-  pub parsed_whole : {k : CheckedAck} {r : AckResult} → checked_ack s ≡ k → r ≡ parsed_as k
-      → (r ≡ parsed_ack s) × Causes no_ack ack_checks s (returned_ack r)
+  abbrev pub ParsedWhole : AckResult → Type 0
+  ParsedWhole r = record { parsed : r ≡ parsed_ack s; causes : Causes no_ack ack_checks s (returned_ack r) }
+
+  pub parsed_whole : {k : CheckedAck} {r : AckResult} → checked_ack s ≡ k → r ≡ parsed_as k → ParsedWhole r
   unfolding checked_ack parsed_ack
   parsed_whole e q =
       let told = q ∙ ap parsed_as (sym e) in
-      (told, rw (told, as_returned (first_failed ack_checks s) (ack_of s)) (causes ack_checks s no_ack (ack_of s)))
+      record {
+        parsed = told;
+        causes = rw (told, as_returned (first_failed ack_checks s) (ack_of s)) (causes ack_checks s no_ack (ack_of s));
+      }

@@ -101,11 +101,15 @@ module _ (a : Ack) (w : ℕ) where
   span_returned (Err e) = refl
 
   -- Both clauses of the contract of `expect`.
-  pub expected_whole : {r : SpanResult} → expected a w ≡ r
-      → (r ≡ expected a w) × AwaitedCauses no_span a w true (returned_span r)
+  abbrev pub ExpectedWhole : SpanResult → Type 0
+  ExpectedWhole r = record { awaited : r ≡ expected a w; causes : AwaitedCauses no_span a w true (returned_span r) }
+
+  pub expected_whole : {r : SpanResult} → expected a w ≡ r → ExpectedWhole r
   unfolding expected
-  expected_whole e =
-      (sym e, rw (← e, span_returned (awaited a w true)) (awaited_causes a w no_span a.payload true))
+  expected_whole e = record {
+    awaited = sym e;
+    causes = rw (← e, span_returned (awaited a w true)) (awaited_causes a w no_span a.payload true);
+  }
 
 -- The reply b in an acknowledgement, from the answer x of `expect`: if x gives the payload, b is read from it; if x
 -- refuses, so does b.
@@ -128,8 +132,8 @@ module _ {A B : Type 0} (answer : Outcome → A → B) (r : Reply A) (a : Ack) (
 pub replied_whole : {A B : Type 0} (z : A) (answer : Outcome → A → B) (give : B → Returned A)
     → ((o : Outcome) (v : A) → give (answer o v) ≡ returned z o v)
     → (r : Reply A) (a : Ack) (s : List ℕ) {b : B} → b ≡ replied answer r a s
-    → (b ≡ replied answer r a s) × ReplyCauses z r a s (give b)
+    → record { answered : b ≡ replied answer r a s; causes : ReplyCauses z r a s (give b) }
 unfolding replied
 replied_whole z answer give given r a s e =
     let p = payload_in s a.payload in
-    (e, rw (e, given) (awaited_causes a r.word z (r.value p) (r.readable p)))
+    record { answered = e; causes = rw (e, given) (awaited_causes a r.word z (r.value p) (r.readable p)) }
