@@ -16,28 +16,39 @@ use Rattle.command.specs.Claims.{FarthestGates, Sensitivities}
 use Rattle.cursor.specs.CommandFrame.{frame_with}
 use Rattle.command.specs.declared.Command.{Command}
 use Rattle.cursor.specs.declared.command_frame.Value.{Value}
+use Rattle.cursor.proofs.CommandFrame.{Made}
 use Rattle.command.proofs.Farthest.{farthest_gates, sensitivities}
 
 module _ (c : Command) (out : List ℕ) where
   -- What the encoder has to show: its answer, its buffer, the causes, and the gates and sensitivities among them.
   abbrev pub Encoded : WriteResult → List ℕ → Type 0
   Encoded r left =
-      (r ≡ write_result (unsupported c) (command_frame c) (length out))
-      × ((left ≡ buffer_after (unsupported c) (command_frame c) out)
-      × (WriteCauses 2 (encodable c ≡ false) (command_frame c) (length out) r
-      × (FarthestGates c r × Sensitivities c r)))
+      record {
+        told : r ≡ write_result (unsupported c) (command_frame c) (length out);
+        left : left ≡ buffer_after (unsupported c) (command_frame c) out;
+        causes : WriteCauses 2 (encodable c ≡ false) (command_frame c) (length out) r;
+        farthest : FarthestGates c r;
+        sensitivities : Sensitivities c r;
+      }
 
   encoded : (left : List ℕ) {r : WriteResult} → Wrote (unsupported c) (command_frame c) out r left
       → Encoded r left
   encoded left h =
       let t = shown Unsupported (λ z. omega arith) (λ z. omega arith) (encodable c) (command_frame c) out left h in
-      let w = t.1.1 in
       let n = length out in
-      (t.0, (t.1.0, (w, (farthest_gates c (command_frame c) n w, sensitivities c (command_frame c) n w))))
+      record {
+        told = t.told;
+        left = t.left;
+        causes = t.causes;
+        farthest = farthest_gates c (command_frame c) n t.causes;
+        sensitivities = sensitivities c (command_frame c) n t.causes;
+      }
 
   pub encode_refused : encodable c ≡ false → Encoded (Err Unsupported) out
   encode_refused e = encoded out (rw e (wrote_refused (command_frame c) out Unsupported))
 
   pub encode_made : (w : ℕ) (v : Value) (left : List ℕ) (r : WriteResult) → encodable c ≡ true → w ≡ word_of c
-      → v ≡ value_of c → Wrote none (frame_with w v) out r left → Encoded r left
-  encode_made w v left r e p q h = encoded left (rw (e, ← p, ← q) h)
+      → v ≡ value_of c → Made w v out r left → Encoded r left
+  encode_made w v left r e p q h =
+      let wrote : Wrote none (frame_with w v) out r left = (h.told, h.left) in
+      encoded left (rw (e, ← p, ← q) wrote)

@@ -15,8 +15,8 @@ use Rattle.command.specs.declared.Command.{Command}
 use Rattle.command.specs.declared.Command.TheVariants.{SetMaxGates}
 
 pub frame_sizes : (c : Command) (n : ℕ) → n ≡ size_with (value_of c)
-    → (n ≡ length (command_frame c)) × (n ≡ size_with (value_of c))
-frame_sizes c n e = (e ∙ frame_size (word_of c) (value_of c), e)
+    → record { counted : n ≡ length (command_frame c); sized : n ≡ size_with (value_of c) }
+frame_sizes c n e = record { counted = e ∙ frame_size (word_of c) (value_of c); sized = e }
 
 -- A frame has 12 to 30 bytes.
 size-bounds : (v : Value) → (12 ≤ size_with v) × (size_with v ≤ 30)

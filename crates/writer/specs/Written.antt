@@ -1,7 +1,7 @@
 -- What every writer of a frame answers, and the buffer afterwards.
 --   written out f             the buffer out with the frame f written: f, then the bytes of out after it
 --   unless b e                the refusal e, unless the test b holds
---   refusal_for w f n          why the frame f is not written into n bytes, if it is not: the refusal w of the value, if
+--   refusal_for w f n        why the frame f is not written into n bytes, if it is not: the refusal w of the value, if
 --                             there is one; else 4, with the bytes needed, if f is longer
 --   answered o n              the answer: the refusal o, or n bytes written if there is none
 --   changed o new old         the buffer old if there is a refusal o, else new
@@ -11,7 +11,7 @@
 --   number_of_write r           the number that it returns, 0 if nothing is refused
 --   WriteCauses k Bad f n r   the answer r gives each number exactly in its cause, k to a bad value, with the right
 --                             fields beside it
---   framable d, frame_refusal d   "that many data bytes, 0 to 65,535": more are "a value that the reader can't give"; no
+--   framable d, frame_refusal d  "that many data bytes, 0 to 65,535": more are "a value that the reader can't give"; no
 --                             writer of the link frames so much
 use Rattle.std.specs.Prelude.{◌≡◌, ◌↔◌, ◌⊎◌, List, ◌++◌, Bool, true, false, ℕ, ◌≤◌, ◌<◌, leb, length, drop}
 use Rattle.std.proofs.Math.Option.{Option, none, some}

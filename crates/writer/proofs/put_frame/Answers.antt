@@ -11,7 +11,8 @@ pub returns-then-out-needed : goal.returns-then-out-needed
 returns-then-out-needed c = frame_short c.args.kind c.args.«data».now c.args.out.now (omega arith) (omega arith)
 
 pub returns : goal.returns
-returns c = let e₁ = rw c.header_of-header.ensures.headed at c.put.ensures.left in
+returns c =
+    let e₁ = rw c.header_of-header.ensures.headed at c.put.ensures.left in
     let e₄ = rw c.tail_of-tail.ensures.tailed at c.put-3.ensures.left in
     let left = put_parts c.args.out.now c.args.kind c.args.«data».now _ _ _ _ (omega arith) e₁ c.put_u16.ensures.left
     c.put-2.ensures.left e₄ in
