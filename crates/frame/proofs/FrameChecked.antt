@@ -55,9 +55,17 @@ as_returned (Maybe.Some c) f = refl
 as_returned Maybe.None f = refl
 
 -- Both clauses of the contract of `parse`.
-pub parsed_whole : (s : List ℕ) {r : FrameResult} → r ≡ parsed_frame s
-    → (r ≡ parsed_frame s) × Causes no_frame (checks_for s) s (returned_frame r)
+abbrev pub ParsedWhole : List ℕ → FrameResult → Type 0
+ParsedWhole s r = record {
+  parsed : r ≡ parsed_frame s;
+  causes : Causes no_frame (checks_for s) s (returned_frame r);
+}
+
+pub parsed_whole : (s : List ℕ) {r : FrameResult} → r ≡ parsed_frame s → ParsedWhole s r
 unfolding parsed_frame checked_frame
 parsed_whole s e =
     let f = frame_as (family s) (data_of s) in
-    (e, rw (e, as_returned (first_failed (checks_for s) s) f) (causes (checks_for s) s no_frame f))
+    record {
+      parsed = e;
+      causes = rw (e, as_returned (first_failed (checks_for s) s) f) (causes (checks_for s) s no_frame f);
+    }
