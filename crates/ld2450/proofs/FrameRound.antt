@@ -65,7 +65,7 @@ module _ (a b c : Target) where
       parts_of (target_bytes a) (target_bytes b) (target_bytes c) (target_eight a).size (target_eight b).size
       (target_eight c).size
 
-  pub each_writable : all_writable three ≡ true → (writable a ≡ true) × (writable b ≡ true) × (writable c ≡ true)
+  each_writable : all_writable three ≡ true → (writable a ≡ true) × (writable b ≡ true) × (writable c ≡ true)
   each_writable e =
       let x = (and-eq-true_iff (writable a) (writable b && (writable c && true))).0 e in
       let y = (and-eq-true_iff (writable b) (writable c && true)).0 x.1 in

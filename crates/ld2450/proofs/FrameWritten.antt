@@ -14,7 +14,7 @@ use Rattle.ld2450.specs.Bytes.{target_bytes, targets_bytes, targets_frame, writa
 use Rattle.ld2450.specs.declared.targets.Target.{Target}
 use Rattle.ld2450.proofs.Frames.{framed_length}
 use Rattle.ld2450.proofs.TargetRound.{target_eight}
-use Rattle.ld2450.proofs.FrameRound.{targets_length, each_writable}
+use Rattle.ld2450.proofs.FrameRound.{targets_length}
 
 and-true : (b : Bool) → b && true ≡ b
 and-true true = refl
@@ -47,12 +47,6 @@ module _ (ts : List Target) (n : length ts ≡ 3) where
   pub by_third : {r : Bool} → writable (get_or ts 0 absent) ≡ true → writable (get_or ts 1 absent) ≡ true
       → r ≡ writable (get_or ts 2 absent) → r ≡ all_writable ts
   by_third a b e = rw (all_tested, a, b) e
-
-  pub each_tested : all_writable ts ≡ true
-      → (writable (get_or ts 0 absent) ≡ true) × (writable (get_or ts 1 absent) ≡ true)
-      × (writable (get_or ts 2 absent) ≡ true)
-  each_tested e =
-      each_writable (get_or ts 0 absent) (get_or ts 1 absent) (get_or ts 2 absent) (sym (ap all_writable (trio ts n)) ∙ e)
 
   pub frame_size : length (targets_frame ts) ≡ 30
   frame_size = framed_length (targets_bytes ts) (omega (arith, targets_length ts))

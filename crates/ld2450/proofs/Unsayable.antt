@@ -117,7 +117,17 @@ reworded h w = record {
 -- What the writer has to show.
 pub sends : (ts : List Target) → TypedTargets ts → (out left : List ℕ) {r : WriteResult}
     → ShownRound target_frames ts (all_writable ts) out r left
-    → WrittenExample × ((r ≡ writes target_frames ts out) × ((left ≡ leaves target_frames ts out)
-    × (WriteCauses 6 (SomeUnsayable ts) (targets_frame ts) (length out) r × RoundTrip target_frames ts)))
-sends ts h out left s =
-    (written_example, (s.0, (s.1.0, (reworded (unsayable ts h.each) s.1.1.0, s.1.1.1))))
+    → record {
+      examples : WrittenExample;
+      told : r ≡ writes target_frames ts out;
+      left : left ≡ leaves target_frames ts out;
+      causes : WriteCauses 6 (SomeUnsayable ts) (targets_frame ts) (length out) r;
+      round : RoundTrip target_frames ts;
+    }
+sends ts h out left s = record {
+  examples = written_example;
+  told = s.told;
+  left = s.left;
+  causes = reworded (unsayable ts h.each) s.causes;
+  round = s.round;
+}
