@@ -4,41 +4,11 @@ use mathlib.Core.Bool.{true, false, true≢false}
 use mathlib.Core.List.{[], ◌∷◌}
 use Prim.Native.Nat.{ℕ, suc}
 use native.Mathlib.Omega.{arith}
-use lib.Dec.{T}
-use lib.IntN.{ℤ, pos, negsuc, nat_abs, ◌-ℤ◌}
-use lib.Signed.{lt_z, non_neg}
-use mir.Syntax.{w16, w32, w64}
-use mir.Val.{Fits, SFits}
+use lib.IntN.{ℤ, pos, negsuc, nat_abs}
+use lib.Signed.{lt_z}
 use borrow.Author.Tests.{ltb-true}
 use Rattle.replay_io.specs.Line.{Gathered, put_all, decimal_of, numbers_of, signed_text}
 use Rattle.replay_io.proofs.Puts.{put_then}
-
--- A number below 0: its negation fits 32 bits, and is how far it is from 0.
-pub record Minus (z : ℤ) : Type 0 where
-  pub wide : SFits w32 z
-  pub fits : SFits w32 (pos 0 -ℤ z)
-  pub positive : T (non_neg (pos 0 -ℤ z))
-  pub held : Fits w64 (nat_abs (pos 0 -ℤ z))
-  pub far : nat_abs (pos 0 -ℤ z) ≡ nat_abs z
-
-pub minus : (z : ℤ) → SFits w16 z → lt_z z (pos 0) ≡ true → Minus z
-minus (pos n) f l = absurd (omega (arith, ltb-true n 0 l))
-minus (negsuc n) f l = record {
-  wide = record { sfits = omega (arith, f.sfits) };
-  fits = record { sfits = omega (arith, f.sfits) };
-  positive = tt;
-  held = record { fits = omega (arith, f.sfits) };
-  far = omega arith;
-}
-
--- Any other number is itself how far it is from 0.
-pub record Plus (z : ℤ) : Type 0 where
-  pub positive : T (non_neg z)
-  pub held : Fits w64 (nat_abs z)
-
-pub plus : (z : ℤ) → SFits w16 z → lt_z z (pos 0) ≡ false → Plus z
-plus (pos n) f l = record { positive = tt; held = record { fits = omega (arith, f.sfits) } }
-plus (negsuc n) f l = absurd (true≢false l)
 
 -- The text of a number has a minus sign before the digits exactly if it is below 0.
 pub signed_minus : (g h k : Gathered) (z : ℤ) (v : ℕ) → lt_z z (pos 0) ≡ true → v ≡ nat_abs z

@@ -20,6 +20,7 @@ pub fn command_in(six: &[u8]) -> MaybeCommand
 }
 
 // Reads the command with the number, its values from the bytes after it.
+#[tactic(auto, unfolding(crate::specs::Command::numbered))]
 fn numbered(number: u8, six: &[u8]) -> MaybeCommand
     ensures read { result ≡ numbered number six.now }
 {
@@ -56,6 +57,7 @@ fn gate(all: bool, index: u8) -> Gate
 }
 
 // Returns the command that sets the rate with the index, if there is one.
+#[tactic(auto, unfolding(crate::specs::Command::baud_command))]
 fn set_baud(index: u8) -> MaybeCommand
     ensures read { result ≡ baud_command index }
 {

@@ -1,10 +1,10 @@
-// The cases of standard input: an op (1 byte), the argument's length (4) and the argument. They are read into a buffer
-// that the caller lends, and each stays there until the next is asked for.
+// The cases of the input: an op (1 byte), the argument's length (4) and the argument. They are read into a buffer that
+// the caller lends, and each stays there until the next is asked for.
 ghost use Rattle.std.specs.Prelude.{◌≡◌, ◌-◌, ◌≤◌, length, take, drop};
 ghost use Rattle.replay_io.specs.Case.{found_in, decided, is_case, sized, nothing_read, next_at, NextCase, Grown};
 
 use crate::argument::u32_at;
-use libc::STDIN_FILENO;
+use std::io::Read;
 use wire::min;
 
 // Bytes of a buffer that holds any case.
@@ -71,7 +71,7 @@ pub fn nothing_read() -> Next
 // ends. A read that fails counts as the end of the input, and so does a buffer that is full; one of
 // `SIZE` bytes holds any case. No contract can name the bytes that a read gives, nor say that the read was made: `more`
 // is trusted to put the input's bytes after those that were kept.
-pub fn next_case(input: &mut [u8], case: Next) -> Next
+pub fn next_case<R: Read>(from: &mut R, input: &mut [u8], case: Next) -> Next
     ensures found { NextCase input.old case input.new result }
 {
     let read = min(case.read, input.len());
@@ -82,7 +82,7 @@ pub fn next_case(input: &mut [u8], case: Next) -> Next
         return next;
     }
     let kept = keep(input, start, read);
-    let end = fill(input, kept);
+    let end = fill(from, input, kept);
     next_at(input, 0, end)
 }
 
@@ -122,6 +122,7 @@ fn found_in(bytes: &[u8]) -> Found
 }
 
 // Returns the length of a case that was found at the front of the bytes; 0 if none was.
+#[tactic(auto, unfolding(crate::specs::Case::sized))]
 fn size_of(found: Found, bytes: &[u8]) -> usize
     ensures sized { result ≡ sized found bytes.now }
 {
@@ -163,13 +164,13 @@ fn keep(input: &mut [u8], used: usize, end: usize) -> usize
 
 // Reads after the bytes that are kept at the front, until a case is whole or too long, or nothing comes. Returns how
 // many bytes the buffer has then.
-fn fill(input: &mut [u8], kept: usize) -> usize
+fn fill<R: Read>(from: &mut R, input: &mut [u8], kept: usize) -> usize
     requires inside { kept ≤ length input.old }
     ensures grown { Grown input.old kept input.new result }
 {
     let mut read = kept;
     loop {
-        let end = more(input, read);
+        let end = more(from, input, read);
         if end == read {
             return end;
         }
@@ -182,11 +183,13 @@ fn fill(input: &mut [u8], kept: usize) -> usize
 
 // Reads once, after the bytes that are kept at the front, and returns how many bytes the buffer has then: as many as
 // before if the input has ended or a read failed.
-fn more(input: &mut [u8], kept: usize) -> usize
+fn more<R: Read>(from: &mut R, input: &mut [u8], kept: usize) -> usize
     requires inside { kept ≤ length input.old }
     ensures grown { Grown input.old kept input.new result }
 {
     let space = &mut input[kept..];
-    let got = libc::read(STDIN_FILENO, space);
-    kept + io::count(got, space)
+    match from.read(space) {
+        Ok(got) => kept + got,
+        Err(_) => kept,
+    }
 }

@@ -5,6 +5,7 @@ ghost use Rattle.replay_io.specs.Script.{call_length, call_size};
 use crate::argument::{u8_at, u16_at};
 
 // Returns the length of the first call of a script, by its number; 0 if no call has the number.
+#[tactic(auto, unfolding(crate::specs::Script::call_length))]
 fn call_length(script: &[u8]) -> usize
     ensures told { result ≡ call_length script.now }
 {
@@ -17,6 +18,7 @@ fn call_length(script: &[u8]) -> usize
 }
 
 // Returns the length of the first call of a script; 0 if there is none, or not all of it.
+#[tactic(auto, unfolding(crate::specs::Script::call_size))]
 pub fn call_size(script: &[u8]) -> usize
     ensures told { result ≡ call_size script.now }
     ensures inside { result ≤ length script.now }
