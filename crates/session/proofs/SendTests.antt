@@ -20,14 +20,25 @@ use Rattle.session.proofs.Farthest.{farthest_sent}
 module _ (s : Session) (c : Command) (out : List ℕ) (r : Sent) where
   -- What `send` has to show: its answer, its buffer, the causes, that it is a move, and the farthest gates.
   abbrev pub Sends : List ℕ → Type 0
-  Sends left = (r ≡ send_of s c (length out)) × ((left ≡ buffer_of s c out)
-      × (SendCauses s c (length out) r.answer
-      × (Called s (send c out) r.session (sent (returned_send r.answer) left) × FarthestSent s c r.answer)))
+  Sends buf =
+      record {
+        told : r ≡ send_of s c (length out);
+        left : buf ≡ buffer_of s c out;
+        causes : SendCauses s c (length out) r.answer;
+        called : Called s (send c out) r.session (sent (returned_send r.answer) buf);
+        farthest : FarthestSent s c r.answer;
+      }
 
   sends : (left : List ℕ) → r ≡ send_of s c (length out) → left ≡ buffer_of s c out → Sends left
   sends left p q =
       let causes : SendCauses s c (length out) r.answer = rw p (send_causes s c out) in
-      (p, (q, (causes, (rw (p, q) (called_send s c out), farthest_sent s c (length out) causes))))
+      record {
+        told = p;
+        left = q;
+        causes = causes;
+        called = rw (p, q) (called_send s c out);
+        farthest = farthest_sent s c (length out) causes;
+      }
 
   pub sends_busy : is_busy s ≡ true → r ≡ refused_by Why.Busy s → Sends out
   unfolding send_of buffer_of
