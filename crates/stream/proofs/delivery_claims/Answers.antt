@@ -17,8 +17,7 @@ use Rattle.stream.specs.Deliver.{holds, decodes, delivered}
 use Rattle.stream.specs.Claims.{DecodesWhole, DeliversWhole, DeliversParsed}
 use Rattle.stream.proofs.Begins.{whole_spelled, whole_short}
 use Rattle.stream.proofs.Delivered.{decodes_framed, delivered_framed}
-use Rattle.stream.proofs.delivery_claims.Statement.{statement}
-use Rattle.stream.proofs.delivery_claims.Tie as tie
+use Rattle.stream.proofs.delivery_claims.Goals as goal
 
 none_failed : (o : MaybeCheck) → holds o ≡ true → o ≡ Maybe.None
 none_failed (Maybe.Some c) e = let z : ◌≡◌ {A = ℕ} 0 1 = cc in absurd (omega arith)
@@ -56,8 +55,5 @@ delivers_parsed : DeliversParsed
 unfolding DeliversParsed decodes delivered parsed_frame
 delivers_parsed f = (holds_accepted (checked_frame f).failed, refl)
 
-returns : tie.Need-returns
-returns c = (decodes_whole, (delivers_whole, delivers_parsed))
-
-pub delivery_claims_spec : {M : Type 1} → statement M
-delivery_claims_spec = tie.close (tie.spec returns)
+pub returns : goal.returns
+returns c = record { decodes = decodes_whole; delivers = delivers_whole; parsed = delivers_parsed }

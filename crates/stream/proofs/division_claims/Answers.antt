@@ -11,8 +11,7 @@ use Rattle.stream.specs.Claims.{TotalAppend, EndsForGood, ResyncsBound, ResyncsR
 use Rattle.stream.proofs.Decoding.{counting}
 use Rattle.stream.proofs.Link.{link}
 use Rattle.stream.proofs.Repeated.{opens_once, once_not_whole, not_twice}
-use Rattle.stream.proofs.division_claims.Statement.{statement}
-use Rattle.stream.proofs.division_claims.Tie as tie
+use Rattle.stream.proofs.division_claims.Goals as goal
 
 once : DividesOnce
 unfolding DividesOnce
@@ -52,8 +51,5 @@ unfolding ResyncsReached
 reached limit m ps d =
     resynced_reached (link limit) 0xF4 (opens_once limit) (once_not_whole limit) (not_twice limit) m d
 
-returns : tie.Need-returns
-returns c = (once, (spells, (lengths, (waits, (appends, (totals, (ends, (bound, reached))))))))
-
-pub division_claims_spec : {M : Type 1} → statement M
-division_claims_spec = tie.close (tie.spec returns)
+pub returns : goal.returns
+returns c = record { once = once; spelled = spells; length = lengths; unfinished = waits; append = appends; total = totals; ends = ends; bound = bound; reached = reached }

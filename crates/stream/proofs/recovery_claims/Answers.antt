@@ -5,8 +5,7 @@ use Rattle.stream.specs.Claims.{AnyClean, AnyRecovers, AnyFound, AnyRegains, Not
 use Rattle.stream.proofs.Recovery.{recovers, found_in_stretch}
 use Rattle.stream.proofs.Regained.{sendable_clean, regains}
 use Rattle.stream.proofs.Sooner.{not_sooner}
-use Rattle.stream.proofs.recovery_claims.Statement.{statement}
-use Rattle.stream.proofs.recovery_claims.Tie as tie
+use Rattle.stream.proofs.recovery_claims.Goals as goal
 
 any_clean : AnyClean
 unfolding AnyClean
@@ -32,8 +31,5 @@ lost_at_244 : NotSoonerAt244
 unfolding NotSooner NotSoonerAt244
 lost_at_244 = any_lost 244 (omega arith) (omega arith)
 
-returns : tie.Need-returns
-returns c = (any_clean, (any_recovers, (any_found, (any_regains, (any_lost, lost_at_244)))))
-
-pub recovery_claims_spec : {M : Type 1} → statement M
-recovery_claims_spec = tie.close (tie.spec returns)
+pub returns : goal.returns
+returns c = record { clean = any_clean; recovers = any_recovers; found = any_found; regains = any_regains; not_sooner = any_lost; at_244 = lost_at_244 }
