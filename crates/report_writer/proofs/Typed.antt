@@ -1,10 +1,10 @@
 -- Bounds from the types of a report's fields: an energy is one byte, a distance two, and each array has its length and
 -- holds bytes. They follow from owning a parameter of the type.
 use mathlib.Core.Path.{◌≡◌}
-use mathlib.Core.List.{List, [], ◌∷◌, map}
+use mathlib.Core.List.{List, [], ◌∷◌}
 use Prim.Native.Nat.{ℕ, ◌<◌}
 use native.Mathlib.Omega.{arith}
-use lib.ListN.{length, length-map}
+use lib.ListN.{length}
 use mir.Syntax.{w8}
 use mir.Val.{Val}
 use denote.Laws.{Is}
@@ -23,14 +23,14 @@ pub record Held (n : ℕ) (s : List ℕ) : Type 0 where
   pub size : length s ≡ n
   pub bytes : Bytes s
 
-each_bytes : (s : List ℕ) (vs : List Val) → shadow (each ℕ (UInt w8).own_val (map (λ v. v) s) vs) → Bytes s
+each_bytes : (s : List ℕ) (vs : List Val) → shadow (each ℕ (UInt w8).own_val s vs) → Bytes s
 each_bytes [] vs h = tt
 each_bytes (b ∷ s) [] h = absurd h
 each_bytes (b ∷ s) (v ∷ vs) h = (omega (arith, h.0.1), each_bytes s vs h.1)
 
-held : (n : ℕ) (s : List ℕ) (vs : List Val) → Is (Array (UInt w8) n) (map (λ v. v) s) vs → Held n s
+held : (n : ℕ) (s : List ℕ) (vs : List Val) → Is (Array (UInt w8) n) s vs → Held n s
 held n s vs h = record {
-  size = omega (arith, h.1.0.1, length-map s (λ v. v));
+  size = omega (arith, h.1.0.1);
   bytes = each_bytes s h.0 h.1.1;
 }
 
