@@ -29,7 +29,8 @@ use Rattle.command.specs.declared.Command.TheVariants.{FactoryReset, Restart, Bl
 pub low_byte : (x : ℕ) → x ≤ 255 → little (x % 256 ∷ x / 256 % 256 ∷ []) % 256 ≡ x
 low_byte x h = omega arith
 
-gate_back : (g : Gate) → gate_known g ≡ true → gate_for (little (gate_value g % 256 ∷ gate_value g / 256 % 256 ∷ [])) ≡ g
+gate_back : (g : Gate) → gate_known g ≡ true
+    → gate_for (little (gate_value g % 256 ∷ gate_value g / 256 % 256 ∷ [])) ≡ g
 unfolding gate_for
 gate_back (Index i) e =
     let h = leb-true i 8 e in

@@ -36,7 +36,8 @@ module _ (s : List ℕ) (c : Command) where
   unfolding if_encodes_to
   unencodable e = rw e
 
-  pub unlike_frame : encodable c ≡ true → same_bytes (command_frame c) s ≡ false → if_encodes_to s c ≡ Err UnknownCommand
+  pub unlike_frame : encodable c ≡ true → same_bytes (command_frame c) s ≡ false
+      → if_encodes_to s c ≡ Err UnknownCommand
   unfolding if_encodes_to
   unlike_frame e f = rw (e, f)
 

@@ -46,7 +46,8 @@ commands_agree c =
       number = refl;
       apart = λ z. omega arith;
       some = λ z. omega arith;
-      bytes = λ g. framed_bytes Family.Command (data_with (word_of c) (value_of c)) (data_bytes (word_of c) (value_of c));
+      bytes = λ g.
+          framed_bytes Family.Command (data_with (word_of c) (value_of c)) (data_bytes (word_of c) (value_of c));
       written = λ g. record { within = tt; kept = tt; read = is_command c (g, refl) };
       found = λ s b w h. (read_encodes s c h).0;
       again = λ s b w k h. sym (read_encodes s c h).1;

@@ -9,4 +9,5 @@ use Rattle.command_reader.specs.Read.{returned_read}
 use Rattle.command_reader.specs.declared.CommandResult.{CommandResult}
 
 abbrev pub NearGates : List ℕ → CommandResult → Type 0
-NearGates b r = (m s n : ℕ) → TooNear m ⊎ TooNear s → b ≡ command_frame (SetMaxGates m s n) → (returned_read r).number ≡ 5
+NearGates b r = (m s n : ℕ) → TooNear m ⊎ TooNear s → b ≡ command_frame (SetMaxGates m s n)
+    → (returned_read r).number ≡ 5

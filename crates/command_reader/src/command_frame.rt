@@ -6,6 +6,7 @@ use frame::{DATA_START, Envelope};
 use wire::{ACK_BIT, Kind, MaybeU16, le16};
 
 // Returns the two-byte number at `at`, or 0 if the bytes are too few.
+#[tactic(auto, unfolding(crate::specs::CommandFrame::number_in))]
 pub(crate) fn number_in(bytes: &[u8], at: usize) -> u16
     ensures read { result ≡ number_in bytes.now at }
 {

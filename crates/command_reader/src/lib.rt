@@ -41,6 +41,7 @@ pub enum CommandResult {
 }
 
 // Returns the gate that a value means: all gates for FFFF, else the gate whose index is the value's lowest byte.
+#[tactic(auto, unfolding(crate::specs::Candidate::gate_for))]
 fn gate_for(value: u16) -> Gate
     ensures found { result ≡ gate_for value }
 {
@@ -52,6 +53,7 @@ fn gate_for(value: u16) -> Gate
 }
 
 // Returns the rate for the index, or any rate if the module does not know the index.
+#[tactic(auto, unfolding(crate::specs::Candidate::baud_for))]
 fn baud_for(index: u16) -> Baud
     ensures found { result ≡ baud_for index }
 {
@@ -63,6 +65,7 @@ fn baud_for(index: u16) -> Baud
 
 // Returns the only command that can have this word, and this number as its value or these values in its records. For a
 // word that no command has it returns any command: that one does not encode to the bytes.
+#[tactic(auto, unfolding(crate::specs::Candidate::candidate))]
 fn candidate(word: u16, number: u16, first: u16, second: u16, third: u16) -> Command
     ensures chosen { result ≡ candidate word number first second third }
 {
@@ -93,6 +96,7 @@ fn candidate(word: u16, number: u16, first: u16, second: u16, third: u16) -> Com
 
 // Returns the only command that can encode to the bytes. It looks only at the word and the two lowest bytes of each
 // value.
+#[tactic(auto, unfolding(crate::specs::Candidate::candidate_in))]
 fn candidate_in(bytes: &[u8]) -> Command
     ensures chosen { result ≡ candidate_in bytes.now }
 {

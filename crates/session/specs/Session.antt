@@ -76,10 +76,14 @@ encoded_by s c n = sent_as (write_result (unsupported c) (command_frame c) n) s 
 
 -- "8 is tested first, then 7, both before 2 and 4"
 unfoldable pub send_of : Session → Command → ℕ → Sent
-send_of s c n = cond (is_busy s) (refused_by Why.Busy s) (cond (needs_open s c) (refused_by Why.NotOpen s) (encoded_by s c n))
+send_of s c n =
+    cond (is_busy s) (refused_by Why.Busy s)
+    (cond (needs_open s c) (refused_by Why.NotOpen s) (encoded_by s c n))
 
 unfoldable pub buffer_of : Session → Command → List ℕ → List ℕ
-buffer_of s c out = cond (is_busy s) out (cond (needs_open s c) out (buffer_after (unsupported c) (command_frame c) out))
+buffer_of s c out =
+    cond (is_busy s) out
+    (cond (needs_open s c) out (buffer_after (unsupported c) (command_frame c) out))
 
 abbrev pub is_ack : FrameKind → Bool
 is_ack Is.None = false

@@ -1,6 +1,7 @@
 // Handing over a frame: whether it ends the wait, and the session after it.
 ghost use Rattle.std.specs.Prelude.{◌≡◌};
-ghost use Rattle.session.specs.Session.{awaited_word, is_ack, is_word, is_awaited, receive_of, after_ack, after_success};
+ghost use Rattle.session.specs.Session.{awaited_word, is_ack, is_word, is_awaited, receive_of};
+ghost use Rattle.session.specs.Session.{after_ack, after_success};
 ghost use Rattle.session.specs.Machine as Machine;
 ghost use Rattle.session.specs.Machine.{received};
 ghost use Rattle.session.specs.Claims.{Called};
