@@ -22,9 +22,5 @@ pub mod Sent
 pub mod Demand
 -- What the pieces of the stream are.
 pub mod Pieces
--- The parser as one that can be lent.
-pub mod Memory
 -- What a parser's type says of it; so demand 3 holds.
 pub mod Known
--- The feeds of a parser that is lent.
-pub mod Feeds

@@ -3,7 +3,7 @@ ghost use Rattle.std.specs.Prelude.{◌≡◌, []};
 ghost use Rattle.ld2450_parser.specs.Feed.{feed_of, feed_slice_of, reset_of};
 ghost use Rattle.ld2450_parser.specs.Claims.{FromHere, FromAny, Determined, ResetFirst};
 
-use super::{MaybeTargets, Parser, Taken};
+use super::{MaybeTargets, Parser, Stats, Taken};
 use crate::feeding::{feed_at, feed_slice_at};
 use crate::steps::hunting;
 
@@ -16,6 +16,12 @@ impl Parser {
     {
         let at = self.at;
         let stats = self.stats;
+        // Read, so that the proof knows that each counter fits its type.
+        let Stats {
+            frames,
+            resyncs,
+            dropped,
+        } = self.stats;
         let moved = feed_at(&mut self.buf, at, stats, byte);
         self.at = moved.at;
         self.stats = moved.stats;
@@ -30,6 +36,12 @@ impl Parser {
     {
         let at = self.at;
         let stats = self.stats;
+        // Read, so that the proof knows that each counter fits its type.
+        let Stats {
+            frames,
+            resyncs,
+            dropped,
+        } = self.stats;
         let run = feed_slice_at(&mut self.buf, at, stats, bytes);
         self.at = run.at;
         self.stats = run.stats;
@@ -43,6 +55,12 @@ impl Parser {
         ensures determined { Determined [] self.new }
         ensures first { ResetFirst self.old self.new }
     {
+        // Read, so that the proof knows that each counter fits its type.
+        let Stats {
+            frames,
+            resyncs,
+            dropped,
+        } = self.stats;
         self.at = hunting();
     }
 }
