@@ -75,7 +75,7 @@ module _ (st : Stats) (b : ℕ) (low : b < 256) where
   header_same Command zero h = leads 0 0 5 4 (lit< tt) ∙ first_command (eqb b 0xFD) refl
   header_same Command (suc zero) h = leads 1 0 6 5 (lit< tt)
   header_same Command (suc (suc zero)) h = leads 2 0 7 6 (lit< tt)
-  header_same Command (suc (suc (suc zero))) h = leads 3 0 17 7 (lit< tt)
+  header_same Command (suc (suc (suc zero))) h = leads 3 0 20 7 (lit< tt)
   header_same Command (suc (suc (suc (suc m)))) h = absurd (omega (arith, h))
 
   -- A tail that breaks is never the first byte of a frame.
@@ -92,10 +92,10 @@ module _ (st : Stats) (b : ℕ) (low : b < 256) where
   tail_same Report zero n h = tail_leads n 0 9 8 (lit< tt)
   tail_same Report (suc zero) n h = tail_leads n 1 10 9 (lit< tt)
   tail_same Report (suc (suc zero)) n h = tail_leads n 2 11 10 (lit< tt)
-  tail_same Report (suc (suc (suc zero))) n h = tail_leads n 3 18 11 (lit< tt)
+  tail_same Report (suc (suc (suc zero))) n h = tail_leads n 3 24 11 (lit< tt)
   tail_same Report (suc (suc (suc (suc m)))) n h = absurd (omega (arith, h))
   tail_same Command zero n h = tail_leads n 0 13 12 (lit< tt)
   tail_same Command (suc zero) n h = tail_leads n 1 14 13 (lit< tt)
   tail_same Command (suc (suc zero)) n h = tail_leads n 2 15 14 (lit< tt)
-  tail_same Command (suc (suc (suc zero))) n h = tail_leads n 3 19 15 (lit< tt)
+  tail_same Command (suc (suc (suc zero))) n h = tail_leads n 3 28 15 (lit< tt)
   tail_same Command (suc (suc (suc (suc m)))) n h = absurd (omega (arith, h))

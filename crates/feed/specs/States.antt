@@ -1,5 +1,5 @@
--- What a state of the second table stands for: the matching states 0 to 15, the whole headers 16 and 17, the whole
--- tails 18 and 19.
+-- What a state of the second table stands for: the matching states 0 to 15, the whole headers 16 and 20, the whole
+-- tails 24 and 28.
 --   in_state s n        the scan in the state s of a frame with n data bytes
 --   ended_in s n        the frame that ends in the state s
 --   given_up st t       the counters after t bytes of a frame are given up: none is no broken start
@@ -19,10 +19,10 @@ use Rattle.scan.specs.declared.stats.Stepped.{Stepped}
 abbrev pub in_state : ℕ → ℕ → Scan
 in_state s n = cond (ltb s 4) (at Header Report (s % 4) 0 0) (cond (ltb s 8) (at Header Command (s % 4) 0 0)
     (cond (ltb s 12) (at Tail Report (s % 4) n n) (cond (ltb s 16) (at Tail Command (s % 4) n n)
-    (cond (eqb s 16) (at Len Report 0 0 0) (cond (eqb s 17) (at Len Command 0 0 0) hunting)))))
+    (cond (eqb s 16) (at Len Report 0 0 0) (cond (eqb s 20) (at Len Command 0 0 0) hunting)))))
 
 abbrev pub ended_in : ℕ → ℕ → Ended
-ended_in s n = cond (eqb s 18) (Frame Report n) (cond (eqb s 19) (Frame Command n) Nothing)
+ended_in s n = cond (eqb s 24) (Frame Report n) (cond (eqb s 28) (Frame Command n) Nothing)
 
 abbrev pub given_up : Stats → ℕ → Stats
 given_up st t = cond (eqb t 0) st (abandoned st t)

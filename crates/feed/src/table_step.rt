@@ -61,7 +61,7 @@ fn in_state(state: u8, len: usize) -> Scan
     if state == 16 {
         return in_len(Kind::Report, 0, 0);
     }
-    if state == 17 {
+    if state == 20 {
         return in_len(Kind::Command, 0, 0);
     }
     hunting()
@@ -71,10 +71,10 @@ fn in_state(state: u8, len: usize) -> Scan
 fn ended_in(state: u8, len: usize) -> Ended
     ensures ended { result ≡ ended_in state len }
 {
-    if state == 18 {
+    if state == 24 {
         return Ended::Frame(Kind::Report, len);
     }
-    if state == 19 {
+    if state == 28 {
         return Ended::Frame(Kind::Command, len);
     }
     Ended::Nothing

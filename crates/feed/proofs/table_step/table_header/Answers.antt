@@ -1,0 +1,13 @@
+-- `feed::table_step::table_header` meets its contract: where the tables lead is where the step leads. Assumes nothing.
+use borrow.Author.Rules.{rules}
+use Rattle.feed.proofs.States.{header_row, header_same}
+use Rattle.feed.proofs.table_step.table_header.Goals as goal
+
+pub next_state-next-requires : goal.next_state-next-requires
+next_state-next-requires c = (rw c.header_state.ensures.number (header_row c.args.kind c.args.matched c.requires.0), c.requires.1, c.requires.2)
+
+pub returns : goal.returns
+returns c = record {
+  stepped = rw (c.step_to.ensures.stepped, c.next_state-next.ensures.next, c.header_state.ensures.number)
+      (header_same c.args.stats c.args.byte (search rules) c.args.kind c.args.matched c.requires.0);
+}
