@@ -112,7 +112,8 @@ module _ (F : Framing) where
         wider : Answering D (from F p (b ∷ (t ++ v))) (length p + 1) t a
             → Answering D (from F p (b ∷ (t ++ v))) (length p + 0) (b ∷ t) a
         wider (frame f ne y e) = frame f cons≢nil (placed (from F p (b ∷ (t ++ v))) (omega arith) y) e
-        wider (no_frame_lem ne y e) = no_frame_lem cons≢nil (λ f z. y f (placed (from F p (b ∷ (t ++ v))) (omega arith) z)) e
+        wider (no_frame_lem ne y e) =
+            no_frame_lem cons≢nil (λ f z. y f (placed (from F p (b ∷ (t ++ v))) (omega arith) z)) e
         wider (no_byte z e) = no_frame_lem cons≢nil
             (λ f y. no_event p b (t ++ v) q f (placed (from F p (b ∷ (t ++ v))) (omega (arith, ap length z)) y)) e
 

@@ -32,7 +32,8 @@ module _ {A K : Type 0} (P : Protocol A K) (pieces : List ℕ → List Piece) wh
       → ((before : List (Did A)) → so_far u (x ∷ before) ≡ so_far v before)
       → ((t : List ℕ) → CallRight P pieces u t x) → Rights v ds → Rights u (x ∷ ds)
   rights_more u v x ds q first more [] d after e =
-      subst (λ (y : Did A). CallRight P pieces u (up_to_reset after) y) (head-eq_of_cons-eq e) (first (up_to_reset after))
+      subst (λ (y : Did A). CallRight P pieces u (up_to_reset after) y) (head-eq_of_cons-eq e)
+      (first (up_to_reset after))
   rights_more u v x ds q first more (y ∷ before) d after e =
       subst (λ (z : Did A). CallRight P pieces (so_far u (z ∷ before)) (up_to_reset after) d) (head-eq_of_cons-eq e)
       (rw (q before) (more before d after (tail-eq_of_cons-eq e)))

@@ -15,7 +15,8 @@ module _ {A : Type 0} where
   stretches_joined (cleared ∷ ds) p = ap (λ (l : List ℕ). p ++ l) (stretches_joined ds [])
 
   -- The stretch so far, after two lists of calls.
-  pub so_far_append : (ds : List (Did A)) (p : List ℕ) (es : List (Did A)) → so_far p (ds ++ es) ≡ so_far (so_far p ds) es
+  pub so_far_append : (ds : List (Did A)) (p : List ℕ) (es : List (Did A))
+      → so_far p (ds ++ es) ≡ so_far (so_far p ds) es
   so_far_append [] p es = refl
   so_far_append (fed b a ∷ ds) p es = so_far_append ds (p ++ (b ∷ [])) es
   so_far_append (sliced bs k a ∷ ds) p es = so_far_append ds (p ++ take k bs) es

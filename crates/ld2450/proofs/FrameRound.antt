@@ -53,7 +53,8 @@ targets_length (t ∷ ts) = simp length-append (omega (arith, (target_eight t).s
 
 targets_bytes_lem : (ts : List Target) → Bytes (targets_bytes ts)
 targets_bytes_lem [] = tt
-targets_bytes_lem (t ∷ ts) = bytes_append (target_bytes t) (targets_bytes ts) (target_eight t).bytes (targets_bytes_lem ts)
+targets_bytes_lem (t ∷ ts) =
+    bytes_append (target_bytes t) (targets_bytes ts) (target_eight t).bytes (targets_bytes_lem ts)
 
 -- What is written for three targets.
 module _ (a b c : Target) where

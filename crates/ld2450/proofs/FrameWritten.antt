@@ -67,7 +67,8 @@ laid_size : (t : Target) {s : List ℕ} → s ≡ target_bytes t → length s �
 laid_size t e = ap length e ∙ (target_eight t).size
 
 pub frame_put : (ts : List Target) → length ts ≡ 3 → (out : List ℕ) {a b c b₁ b₂ b₃ b₄ b₅ : List ℕ} → 30 ≤ length out
-    → a ≡ target_bytes (get_or ts 0 absent) → b ≡ target_bytes (get_or ts 1 absent) → c ≡ target_bytes (get_or ts 2 absent)
+    → a ≡ target_bytes (get_or ts 0 absent) → b ≡ target_bytes (get_or ts 1 absent)
+    → c ≡ target_bytes (get_or ts 2 absent)
     → b₁ ≡ put_in out 0 header → b₂ ≡ put_in b₁ 4 a → b₃ ≡ put_in b₂ 12 b → b₄ ≡ put_in b₃ 20 c → b₅ ≡ put_in b₄ 28 tail
     → b₅ ≡ written out (targets_frame ts)
 frame_put ts n out h ha hb hc e₁ e₂ e₃ e₄ e₅ =

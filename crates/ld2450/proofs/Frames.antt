@@ -90,7 +90,8 @@ module _ (s : List ℕ) where
   unfolding parsed_targets
   parsed_frame_lem e = rw e
 
-  pub parsed_other : is_frame s ≡ false → parsed_targets s ≡ record { outcome = Err InvalidFormat; targets = no_targets }
+  pub parsed_other : is_frame s ≡ false
+      → parsed_targets s ≡ record { outcome = Err InvalidFormat; targets = no_targets }
   unfolding parsed_targets
   parsed_other e = rw e
 

@@ -56,7 +56,8 @@ module _ (t : Target) (there : t.present ≡ true) where
 
   pub bytes_laid : {a b c d : List ℕ} → a ≡ le_bytes 2 (raw_of t.x) → b ≡ le_bytes 2 (raw_of t.y)
       → c ≡ le_bytes 2 (raw_of t.speed) → d ≡ le_bytes 2 t.resolution
-      → get_or a 0 0 ∷ get_or a 1 0 ∷ get_or b 0 0 ∷ get_or b 1 0 ∷ get_or c 0 0 ∷ get_or c 1 0 ∷ get_or d 0 0 ∷ get_or d 1 0 ∷ []
+      → get_or a 0 0 ∷ get_or a 1 0 ∷ get_or b 0 0 ∷ get_or b 1 0
+      ∷ get_or c 0 0 ∷ get_or c 1 0 ∷ get_or d 0 0 ∷ get_or d 1 0 ∷ []
       ≡ target_bytes t
   unfolding target_bytes
   bytes_laid ha hb hc hd = rw (there, ha, hb, hc, hd)

@@ -160,8 +160,8 @@ module _ (b : List ℕ) (h : Eight b) where
         said_raw (field_at b 2) (field_wide 2 (omega arith)) k.1,
         said_raw (field_at b 4) (field_wide 4 (omega arith)) k.2,
       )
-      (le_bytes_again 2 b 0 (le_bytes 2 (field_at b 2) ++ (le_bytes 2 (field_at b 4) ++ le_bytes 2 (field_at b 6))) h.bytes
-      (omega arith)
+      (le_bytes_again 2 b 0 (le_bytes 2 (field_at b 2) ++ (le_bytes 2 (field_at b 4) ++ le_bytes 2 (field_at b 6)))
+      h.bytes (omega arith)
       (le_bytes_again 2 b 2 (le_bytes 2 (field_at b 4) ++ le_bytes 2 (field_at b 6)) h.bytes (omega arith)
       (le_bytes_again 2 b 4 (le_bytes 2 (field_at b 6)) h.bytes (omega arith) last)))
 

@@ -56,7 +56,8 @@ module _ (divide : (t : List ℕ) → Divided Open Whole t) where
   pieces_of ds h = sym ((divide (back_to_back ds)).only (wholes ds) (wholes_divide ds h))
 
   all_answered : (dss : List (List (List ℕ))) → Every (Every Held) dss
-      → join_over (λ t. answers decodes delivered (divide t).pieces) (map back_to_back dss) ≡ map targets_in (all_of dss)
+      → join_over (λ t. answers decodes delivered (divide t).pieces) (map back_to_back dss)
+      ≡ map targets_in (all_of dss)
   all_answered [] h = refl
   all_answered (ds ∷ dss) h =
       rw (pieces_of ds h.0, wholes_answered ds h.0, all_answered dss h.1)

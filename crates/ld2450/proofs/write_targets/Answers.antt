@@ -9,7 +9,8 @@ use Rattle.ld2450.proofs.FrameRound.{agreed}
 use Rattle.ld2450.proofs.FrameWritten.{by_first, by_second, by_third, frame_size, frame_put}
 use Rattle.ld2450.proofs.Unsayable.{sends}
 use Rattle.ld2450.proofs.write_targets.Goals as goal
-use Rattle.ld2450.proofs.write_targets.Goals.{then-writable+then-writable-2, then-writable+else-writable-2, else-writable}
+use Rattle.ld2450.proofs.write_targets.Goals.{then-writable+then-writable-2, then-writable+else-writable-2}
+use Rattle.ld2450.proofs.write_targets.Goals.{else-writable}
 
 pub returns-then-not-writable : goal.returns-then-not-writable
 returns-then-not-writable c =

@@ -1,5 +1,5 @@
--- `ld2450_parser::Parser::reset` meets its contract: the parser's type says what demand 3 asks of it, so that the claims
--- hold after a reset of any parser. Assumes nothing.
+-- `ld2450_parser::Parser::reset` meets its contract: the parser's type says what demand 3 asks of it, so that the
+-- claims hold after a reset of any parser. Assumes nothing.
 use native.Mathlib.Omega.{arith}
 use mathlib.Core.Path.{refl}
 use Rattle.ld2450_parser.proofs.Known.{known_reset}

@@ -8,4 +8,7 @@ step-stepped-requires c = rw c.or_reset-place.ensures.or_reset (or_reset_range _
 
 pub returns : goal.returns
 unfolding feed_of stepped
-returns c = record { moved = (rw (c.answer-answer.ensures.answered, c.step-stepped.ensures.stepped.0, c.step-stepped.ensures.stepped.1, c.or_reset-place.ensures.or_reset), rw (c.step-stepped.ensures.stepped.1, c.or_reset-place.ensures.or_reset)) }
+returns c =
+    let reset = c.or_reset-place.ensures.or_reset in
+    let did = c.step-stepped.ensures.stepped in
+    record { moved = (rw (c.answer-answer.ensures.answered, did.0, did.1, reset), rw (did.1, reset)) }

@@ -19,17 +19,21 @@ pub loop-i-smaller : goal.loop-i-smaller
 loop-i-smaller c = omega (arith, c.loop-i.invariant.0.inside)
 
 pub loop-i-preserved : goal.loop-i-preserved
-loop-i-preserved c = let range = step_range _ _ _ c.loop-i.invariant.0.is_in_range in (
-  left_on _ _ _ _ _ c.loop-i.invariant.0 (omega (arith, c.loop-i.invariant.0.inside)) _ _ c.step-stepped.ensures.stepped.0 c.step-stepped.ensures.stepped.1
-      (rw c.step-stepped.ensures.stepped.0 range) c.if-stepped.false,
-  c.loop-i.invariant.1,
-)
+loop-i-preserved c =
+    let inv = c.loop-i.invariant in
+    let did = c.step-stepped.ensures.stepped in
+    let range = step_range _ _ _ inv.0.is_in_range in (
+      left_on _ _ _ _ _ inv.0 (omega (arith, inv.0.inside)) _ _ did.0 did.1 (rw did.0 range) c.if-stepped.false,
+      inv.1,
+    )
 
 pub returns-then-i-bytes : goal.returns-then-i-bytes
-returns-then-i-bytes c = record { ran = rw c.loop-i.invariant.1 (left_end _ _ _ _ _ c.loop-i.invariant.0 c.if-i-bytes.true) }
+returns-then-i-bytes c =
+    let inv = c.loop-i.invariant in
+    record { ran = rw inv.1 (left_end _ _ _ _ _ inv.0 c.if-i-bytes.true) }
 
 pub returns-then-stepped : goal.returns-then-stepped
-returns-then-stepped c = record {
-  ran = left_frame _ _ _ _ _ c.loop-i.invariant.0 (omega (arith, c.loop-i.invariant.0.inside)) _ _ c.step-stepped.ensures.stepped.0 c.step-stepped.ensures.stepped.1
-      c.if-stepped.true;
-}
+returns-then-stepped c =
+    let inv = c.loop-i.invariant.0 in
+    let did = c.step-stepped.ensures.stepped in
+    record { ran = left_frame _ _ _ _ _ inv (omega (arith, inv.inside)) _ _ did.0 did.1 c.if-stepped.true }

@@ -10,7 +10,8 @@ use Rattle.ld2450_parser.proofs.run.run_at.Given as goal
 
 abbrev pub invariant-loop-i : goal.invariant-loop-i
 invariant-loop-i l =
-    Left (run_of (put l.initial.buf l.initial.place l.initial.counted) l.bytes) l.buf l.place l.counted l.bytes l.i × (l.ended ≡ false)
+    Left (run_of (put l.initial.buf l.initial.place l.initial.counted) l.bytes) l.buf l.place l.counted l.bytes l.i
+    × (l.ended ≡ false)
 
 abbrev pub decreases-loop-i : goal.decreases-loop-i
 decreases-loop-i l = length l.bytes - l.i

@@ -9,4 +9,5 @@ returns-then-byte-eq170 c = record { started = rw (c.continued.ensures.stepped, 
 
 pub returns : goal.returns
 unfolding started
-returns c = record { started = rw (c.continued-2.ensures.stepped, c.bump.ensures.counted, ne_eqb _ _ c.if-byte-eq170.false) }
+returns c =
+    record { started = rw (c.continued-2.ensures.stepped, c.bump.ensures.counted, ne_eqb _ _ c.if-byte-eq170.false) }

@@ -10,8 +10,12 @@ returns-then-at-lt4 c = record { stepped = rw (c.match_due.ensures.stepped, lt-l
 
 pub returns-then-at-lt28 : goal.returns-then-at-lt28
 unfolding step_of stored
-returns-then-at-lt28 c = record { stepped = rw (c.continued.ensures.stepped, le-ltb _ _ c.if-at-lt4.false, lt-ltb _ _ c.if-at-lt28.true) (refl, refl) }
+returns-then-at-lt28 c =
+    let stepped = c.continued.ensures.stepped in
+    record { stepped = rw (stepped, le-ltb _ _ c.if-at-lt4.false, lt-ltb _ _ c.if-at-lt28.true) (refl, refl) }
 
 pub returns : goal.returns
 unfolding step_of stored
-returns c = record { stepped = rw (c.match_due-2.ensures.stepped, le-ltb _ _ c.if-at-lt4.false, le-ltb _ _ c.if-at-lt28.false) (refl, refl) }
+returns c =
+    let stepped = c.match_due-2.ensures.stepped in
+    record { stepped = rw (stepped, le-ltb _ _ c.if-at-lt4.false, le-ltb _ _ c.if-at-lt28.false) (refl, refl) }
