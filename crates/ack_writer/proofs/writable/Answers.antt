@@ -12,8 +12,12 @@ returns-then-word-ne0 c = record { tested = rw (ne_eqb (c.args.word / 0x0100 % 2
 
 pub returns-then-ok-status : goal.returns-then-ok-status
 unfolding writable
-returns-then-ok-status c = record { tested = rw (eq-eqb _ _ c.if-word-ne0.false, not-true (beq c.args.ok (eqb c.args.status 0)) c.if-ok-status.true) }
+returns-then-ok-status c =
+    let a = c.args in
+    record { tested = rw (eq-eqb _ _ c.if-word-ne0.false, not-true (beq a.ok (eqb a.status 0)) c.if-ok-status.true) }
 
 pub returns : goal.returns
 unfolding writable
-returns c = record { tested = rw (eq-eqb _ _ c.if-word-ne0.false, not-false (beq c.args.ok (eqb c.args.status 0)) c.if-ok-status.false) }
+returns c =
+    let a = c.args in
+    record { tested = rw (eq-eqb _ _ c.if-word-ne0.false, not-false (beq a.ok (eqb a.status 0)) c.if-ok-status.false) }

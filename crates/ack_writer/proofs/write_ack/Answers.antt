@@ -49,5 +49,5 @@ returns c =
     let filled = data_filled a.word a.status p _ _ _ fit.short c.put_u16.ensures.left c.put_u16-2.ensures.left
     c.put.ensures.left in
     let size = data_length a.word a.status p in
-    round_framed (agreed a.word a.ok a.status p (omega arith) (omega arith) bytes) Command (ack_data a.word a.status p) _ _ _
-    refl (omega arith) good filled c.put_frame.ensures
+    round_framed (agreed a.word a.ok a.status p (omega arith) (omega arith) bytes) Command
+    (ack_data a.word a.status p) _ _ _ refl (omega arith) good filled c.put_frame.ensures

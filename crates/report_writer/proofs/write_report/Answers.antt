@@ -26,4 +26,5 @@ returns c =
     let typed : TypedReport r = report_typed r _ c.well_formed.1.0 in
     let good : writable r ≡ true = sym c.is_writable.ensures.tested ∙ c.if-not-is_writable.false in
     let short : length (report_data r) ≤ 41 = data_short r typed (writable_sound r good) in
-    round_framed (agreed r typed) Report _ _ _ _ refl (omega arith) good c.encode_data-len.ensures.left c.put_frame.ensures
+    round_framed (agreed r typed) Report _ _ _ _ refl (omega arith) good c.encode_data-len.ensures.left
+    c.put_frame.ensures

@@ -9,4 +9,5 @@ returns-in_default c = replied_whole _ _ returned_firmware firmware_returned _ _
     (search (replied_refused firmware_as firmware_reply))
 
 pub returns : goal.returns
-returns c = replied_whole _ _ returned_firmware firmware_returned _ _ _ (search (replied_read firmware_as firmware_reply))
+returns c =
+    replied_whole _ _ returned_firmware firmware_returned _ _ _ (search (replied_read firmware_as firmware_reply))

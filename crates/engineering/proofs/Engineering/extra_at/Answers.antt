@@ -9,7 +9,11 @@ pub bounds-bytes-i : goal.bounds-bytes-i
 bounds-bytes-i c = omega (arith, ap (λ k. k.count) c.extra-kept.ensures.given)
 
 pub returns-then-i-kept : goal.returns-then-i-kept
-returns-then-i-kept c = record { given = rw c.extra-kept.ensures.given (sym (extra_there _ _ (omega (arith, ap (λ k. k.count) c.extra-kept.ensures.given)))) }
+returns-then-i-kept c =
+    let kept = c.extra-kept.ensures.given in
+    record { given = rw kept (sym (extra_there _ _ (omega (arith, ap (λ k. k.count) kept)))) }
 
 pub returns-else-i-kept : goal.returns-else-i-kept
-returns-else-i-kept c = record { given = sym (extra_missing _ _ (omega (arith, ap (λ k. k.count) c.extra-kept.ensures.given))) }
+returns-else-i-kept c =
+    let kept = c.extra-kept.ensures.given in
+    record { given = sym (extra_missing _ _ (omega (arith, ap (λ k. k.count) kept))) }

@@ -57,6 +57,7 @@ returns c =
     let i = c.put_first-moving_end.ensures in
     let j = c.put_first-stationary_end.ensures in
     let k = c.put_first.ensures in
-    let all = block_put e t w c.args.«data».now _ _ _ _ _ _ _ c.requires.room c.put.ensures.left i.left i.told j.left j.told k.left k.told in
+    let all = block_put e t w c.args.«data».now _ _ _ _ _ _ _ c.requires.room c.put.ensures.left
+    i.left i.told j.left j.told k.left k.told in
     let on : c.args.report.has_engineering ≡ true = not-false _ c.if-not-report.false in
     rw on record { told = all.ends; left = all.holds }

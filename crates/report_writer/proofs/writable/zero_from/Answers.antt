@@ -12,7 +12,9 @@ pub bounds-s-i : goal.bounds-s-i
 bounds-s-i c = omega arith
 
 pub returns-then-s-i-ne0 : goal.returns-then-s-i-ne0
-returns-then-s-i-ne0 c = record { tested = sym (c.loop-i.invariant ∙ zeros_broken _ c.loop-i.i (omega arith) c.if-s-i-ne0.true) }
+returns-then-s-i-ne0 c = record {
+  tested = sym (c.loop-i.invariant ∙ zeros_broken _ c.loop-i.i (omega arith) c.if-s-i-ne0.true);
+}
 
 pub overflow_add-i : goal.overflow_add-i
 overflow_add-i c = omega arith

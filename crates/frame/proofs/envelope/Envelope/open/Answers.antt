@@ -24,7 +24,8 @@ pub returns-then-bytes-end : goal.returns-then-bytes-end
 returns-then-bytes-end c =
     let at = read_some two _ 4 (sym c.in-Some-le16.ensures.read) in
     record {
-      opened = sym (fails_F3 _ _ (sym c.in-Some.ensures.found) at.inside (omega (arith, at.value, c.if-bytes-end.true)));
+      opened = sym (fails_F3 _ _ (sym c.in-Some.ensures.found) at.inside
+          (omega (arith, at.value, c.if-bytes-end.true)));
     }
 
 pub returns-then-not-bytes_eq : goal.returns-then-not-bytes_eq
