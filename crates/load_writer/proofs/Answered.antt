@@ -51,7 +51,7 @@ module _ {x : ℕ} (e : x ≡ 0) where
   zero_filled out = record { front = λ h. absurd (h e); stay = refl }
 
 -- Any other seed: the front of the buffer, at most 65,536 bytes of it, is filled.
-pub front_length : (out : List ℕ) {room : ℕ} → room ≡ min (length out) 65536 → length (take room out) ≡ room
+front_length : (out : List ℕ) {room : ℕ} → room ≡ min (length out) 65536 → length (take room out) ≡ room
 front_length out {room} r = length-take-le room out (omega arith)
 
 module _ {x : ℕ} (e : x ≢ 0) (out : List ℕ) {room : ℕ} (r : room ≡ min (length out) 65536) where

@@ -1,10 +1,8 @@
 -- The piece that a draw chooses, by its remainder, and where it is put.
-use mathlib.Core.Path.{◌≡◌, sym, ◌∙◌}
+use mathlib.Core.Path.{◌≡◌, ◌∙◌}
 use mathlib.Core.List.{List, [], ◌∷◌}
-use Prim.Native.Nat.{ℕ, ◌%◌, ◌≤◌}
-use native.Mathlib.Omega.{arith}
+use Prim.Native.Nat.{ℕ, ◌%◌}
 use lib.ListN.{length, take}
-use lib.Seq.{length-take-le}
 use Rattle.wire.specs.Family.{framed}
 use Rattle.writer.specs.Put.{placed, put_in}
 use Rattle.writer.specs.declared.puts.Placed.{Placed}
@@ -38,20 +36,21 @@ pub report_length : (x : ℕ) {r : DrawnReport} → r ≡ report_drawn x → len
 unfolding framed
 report_length x e = rw e
 
-pub cut-length : (k x : ℕ) {r : DrawnReport} → r ≡ report_drawn x → k ≤ 23 → k ≡ length (take k r.bytes)
-cut-length k x {r} e h = let l = report_length x e in sym (length-take-le k r.bytes (omega arith))
-
 pub report_cut : (k x : ℕ) {r : DrawnReport} → r ≡ report_drawn x
     → cut_report k x ≡ record { bytes = take k r.bytes; next = r.next }
 report_cut k x e = rw e
 
+-- What is shown of a piece that is put: where it ends with the number after it, and the buffer.
+abbrev pub PieceIs : List ℕ → ℕ → LoadPiece → PutPiece → List ℕ → Type 0
+PieceIs out at p r left = record { placed : r ≡ put_piece out at p; left : left ≡ put_in out at p.bytes }
+
 -- Putting a piece's bytes gives its end, and the number after it.
 pub piece_put : (out : List ℕ) (at : ℕ) {p : LoadPiece} {b : List ℕ} {y : ℕ} → p ≡ record { bytes = b; next = y }
-    → {q : Placed} {left : List ℕ} → (q ≡ placed out at b) × (left ≡ put_in out at b)
-    → (◌≡◌ {A = PutPiece} (record { placed = q; next = y }) (put_piece out at p)) × (left ≡ put_in out at p.bytes)
-piece_put out at e h = rw e (rw h.0, h.1)
+    → {q : Placed} {left : List ℕ} → q ≡ placed out at b → left ≡ put_in out at b
+    → PieceIs out at p (record { placed = q; next = y }) left
+piece_put out at e h k = record { placed = rw e (rw h); left = rw e k }
 
 pub same_put : (out : List ℕ) (at : ℕ) {p c : LoadPiece} → p ≡ c
-    → {r : PutPiece} {left : List ℕ} → (r ≡ put_piece out at c) × (left ≡ put_in out at c.bytes)
-    → (r ≡ put_piece out at p) × (left ≡ put_in out at p.bytes)
-same_put out at e h = rw e h
+    → {r : PutPiece} {left : List ℕ} → r ≡ put_piece out at c → left ≡ put_in out at c.bytes
+    → PieceIs out at p r left
+same_put out at e h k = record { placed = rw e h; left = rw e k }

@@ -76,14 +76,20 @@ module _ {s : ℕ} {out : List ℕ} {x at : ℕ} {left : List ℕ} (h : Filling 
 
     -- The next piece would pass the end: the load is whole, and nothing is put.
     pub filling_ends : t.placed ≡ TooSmall
-        → (at ≡ length (laid_down s (length out))) × (next ≡ written out (laid_down s (length out)))
+        → record {
+          count : at ≡ length (laid_down s (length out));
+          left : next ≡ written out (laid_down s (length out));
+        }
     filling_ends e =
         let passes = short e in
         let n = same_length in
         let none = load_stops x (length out - at) (omega arith) in
         let whole : h.done ≡ laid_down s (length out) = sym (append-nil h.done) ∙ rw none at h.rest in
         let kept = holds ∙ put_fails left at (piece x).bytes passes in
-        (rw (← whole) (omega (arith, h.put.ends)), kept ∙ rw (← whole) (put_written h.put))
+        record {
+          count = rw (← whole) (omega (arith, h.put.ends));
+          left = kept ∙ rw (← whole) (put_written h.put);
+        }
 
     pub filling_kept : t.placed ≡ TooSmall → length next ≡ length out
     filling_kept e = ap length (holds ∙ put_fails left at (piece x).bytes (short e)) ∙ same_length

@@ -174,11 +174,13 @@ module _ (limit : ℕ) where
           pends = nothing;
         }
 
-        after_cut : Reads (take 22 (basic_report (drawn 9 y))) (byte_of x ∷ []) (of_byte true (byte_of x)) false (after 2 x)
+        after_cut : Reads (take 22 (basic_report (drawn 9 y))) (byte_of x ∷ []) (of_byte true (byte_of x)) false
+            (after 2 x)
         after_cut = go (eqb (byte_of x) 0xF5) refl
           where
             go : (t : Bool) → eqb (byte_of x) 0xF5 ≡ t
-                → Reads (take 22 (basic_report (drawn 9 y))) (byte_of x ∷ []) (of_byte true (byte_of x)) false (after 2 x)
+                → Reads (take 22 (basic_report (drawn 9 y))) (byte_of x ∷ []) (of_byte true (byte_of x)) false
+                (after 2 x)
             go true q = rw (eqb-true (byte_of x) 0xF5 q) mends
             go false q = rw q (over _ (not_open limit _ (cut_goes_on limit room y (byte_of x) ∙ q)))
 

@@ -11,7 +11,8 @@
 --   mended k x         how many of the first k pieces are reports that another of them mends
 --   AddsUp k x ps      what the pieces ps of a division add up to, if they divide the first k pieces of the load
 --   Counted x          what a parser finds and counts in the first pieces after x, and so in each load of the seed x
-use Rattle.std.specs.Prelude.{◌≡◌, List, Bool, true, cond, ◌&&◌, ◌||◌, ℕ, zero, suc, ◌+◌, ◌-◌, ◌*◌, ◌%◌, ◌≤◌, ◌<◌, min, eqb, length}
+use Rattle.std.specs.Prelude.{◌≡◌, List, Bool, true, cond, ◌&&◌, ◌||◌, ℕ, zero, suc, ◌+◌, ◌-◌, ◌*◌, ◌%◌}
+use Rattle.std.specs.Prelude.{◌≤◌, ◌<◌, min, eqb, length}
 use Rattle.framing.specs.Piece.{Piece}
 use Rattle.framing.specs.Division.{EndsAt}
 use Rattle.framing.specs.Tally.{sum, waiting}
