@@ -10,17 +10,5 @@ pub mod Engines
 pub mod Demand
 -- 53 bytes are not enough.
 pub mod Sooner
--- The parser's type as one that can be lent, and its cell in memory.
-pub mod Memory
 -- A parser's type ensures what demand 3 asks.
 pub mod Known
--- The two feeds of a lent parser.
-pub mod Feeds
--- A parser in a local, lent for a call.
-pub mod Local
--- The code and the contract of a feed by value, which lends a local.
-pub mod Hands
--- What the feeds by value hand back.
-pub mod Handed
--- The walk of that code.
-pub mod LocalFeed

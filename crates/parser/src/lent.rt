@@ -7,7 +7,7 @@ ghost use Rattle.parser.specs.Claims.{FromHere, FromAny, Determined, ResetFirst}
 use super::Parser;
 use feed::{Taken, feed_at, feed_slice_at};
 use frame::Frame;
-use scan::hunting;
+use scan::{Stats, hunting};
 
 impl Parser {
     // Feeds as `fed` does, on a parser that is lent: it stays in place, and nothing of its buffer is copied.
@@ -16,6 +16,13 @@ impl Parser {
             × (self.new ≡ (feed_of link_limit self.old byte).parser) }
         ensures any { FromAny self.old }
     {
+        // Read, so that the proof knows that each counter fits its type.
+        let Stats {
+            frames,
+            resyncs,
+            dropped,
+            malformed,
+        } = self.stats;
         let scan = self.scan;
         let stats = self.stats;
         let moved = feed_at(&mut self.buf, scan, stats, byte);
@@ -30,6 +37,13 @@ impl Parser {
             × (self.new ≡ (feed_slice_of link_limit self.old bytes.now).parser) }
         ensures any { FromAny self.old }
     {
+        // Read, so that the proof knows that each counter fits its type.
+        let Stats {
+            frames,
+            resyncs,
+            dropped,
+            malformed,
+        } = self.stats;
         let scan = self.scan;
         let stats = self.stats;
         let run = feed_slice_at(&mut self.buf, scan, stats, bytes);
@@ -45,6 +59,13 @@ impl Parser {
         ensures determined { Determined [] self.new }
         ensures first { ResetFirst self.old self.new }
     {
+        // Read, so that the proof knows that each counter fits its type.
+        let Stats {
+            frames,
+            resyncs,
+            dropped,
+            malformed,
+        } = self.stats;
         self.scan = hunting();
     }
 }

@@ -9,6 +9,7 @@ ghost use Rattle.parser.specs.Claims.{FromAny};
 use super::{Fed, FedSlice, Parser};
 use feed::{Taken, table_feed_at, table_feed_slice_at};
 use frame::Frame;
+use scan::Stats;
 
 impl Parser {
     // Feeds as `feed` does, by the table engine.
@@ -17,6 +18,13 @@ impl Parser {
             × (self.new ≡ (feed_of link_limit self.old byte).parser) }
         ensures any { FromAny self.old }
     {
+        // Read, so that the proof knows that each counter fits its type.
+        let Stats {
+            frames,
+            resyncs,
+            dropped,
+            malformed,
+        } = self.stats;
         let scan = self.scan;
         let stats = self.stats;
         let moved = table_feed_at(&mut self.buf, scan, stats, byte);
@@ -31,6 +39,13 @@ impl Parser {
             × (self.new ≡ (feed_slice_of link_limit self.old bytes.now).parser) }
         ensures any { FromAny self.old }
     {
+        // Read, so that the proof knows that each counter fits its type.
+        let Stats {
+            frames,
+            resyncs,
+            dropped,
+            malformed,
+        } = self.stats;
         let scan = self.scan;
         let stats = self.stats;
         let run = table_feed_slice_at(&mut self.buf, scan, stats, bytes);
