@@ -1,6 +1,6 @@
 -- Rows of request 9: bytes matched by the two tables. States 0 to 3 look for a report's header, 4 to 7 for a command's;
--- 8 to 11 are in a report's tail, 12 to 15 in a command's, here of frames with 2 data bytes; 16 and 17 are after a
--- header, 18 and 19 after a tail.
+-- 8 to 11 are in a report's tail, 12 to 15 in a command's, here of frames with 2 data bytes; 16 and 20 are after a
+-- header, 24 and 28 after a tail.
 --   walks   the rows
 use Rattle.std.specs.Prelude.{List, [], ◌∷◌, ℕ}
 use Rattle.cases.specs.Walk.{Walk}
@@ -15,9 +15,9 @@ abbrev pub walks : List Walk
 walks =
     -- the two headers and the two tails
     header 0 (0xF4 ∷ 0xF3 ∷ 0xF2 ∷ 0xF1 ∷ []) (1 ∷ 2 ∷ 3 ∷ 16 ∷ []) 0 0
-    ∷ header 0 (0xFD ∷ 0xFC ∷ 0xFB ∷ 0xFA ∷ []) (5 ∷ 6 ∷ 7 ∷ 17 ∷ []) 0 0
-    ∷ tail 8 (0xF8 ∷ 0xF7 ∷ 0xF6 ∷ 0xF5 ∷ []) (9 ∷ 10 ∷ 11 ∷ 18 ∷ []) 0 0
-    ∷ tail 12 (0x04 ∷ 0x03 ∷ 0x02 ∷ 0x01 ∷ []) (13 ∷ 14 ∷ 15 ∷ 19 ∷ []) 0 0
+    ∷ header 0 (0xFD ∷ 0xFC ∷ 0xFB ∷ 0xFA ∷ []) (5 ∷ 6 ∷ 7 ∷ 20 ∷ []) 0 0
+    ∷ tail 8 (0xF8 ∷ 0xF7 ∷ 0xF6 ∷ 0xF5 ∷ []) (9 ∷ 10 ∷ 11 ∷ 24 ∷ []) 0 0
+    ∷ tail 12 (0x04 ∷ 0x03 ∷ 0x02 ∷ 0x01 ∷ []) (13 ∷ 14 ∷ 15 ∷ 28 ∷ []) 0 0
     -- bytes that begin nothing, those of a header or tail among them
     ∷ header 0 (0x00 ∷ 0xFF ∷ 0xF3 ∷ 0xFC ∷ 0xF8 ∷ 0x04 ∷ 0xF9 ∷ []) (0 ∷ 0 ∷ 0 ∷ 0 ∷ 0 ∷ 0 ∷ 0 ∷ []) 0 7
     -- a header that begins again after one, two and three bytes
