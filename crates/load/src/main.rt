@@ -6,8 +6,9 @@
 ghost use Rattle.std.specs.Prelude.{◌≡◌, true};
 ghost use Rattle.load.specs.Seed.{is_taken, with_digit, seed_of, SeedExamples};
 
-use libc::{STDERR_FILENO, STDOUT_FILENO};
 use load_writer::{LoadResult, write_load};
+use std::env::{Env, FillError};
+use std::io;
 
 // The largest number of 32 bits.
 const MAX_SEED: u64 = 4_294_967_295;
@@ -52,26 +53,30 @@ fn seed_in(text: &[u8]) -> u32
 }
 
 // Reads the seed that the one argument is, or gives 0. An argument longer than the buffer is no seed.
-fn given() -> u32 {
-    let mut text = io::buffer();
-    let n = os::arg(1, &mut text);
-    if os::arg_count() != 2 {
+fn given(rt: &impl Env) -> u32 {
+    let mut text = [0u8; 4096];
+    if !is_missing(rt.arg(2, &mut text)) {
         return 0;
     }
-    seed_in(&text[..n])
+    match rt.arg(1, &mut text) {
+        Ok(n) => seed_in(&text[..n]),
+        Err(_) => 0,
+    }
 }
 
-fn main() {
-    let mut out = io::large_buffer();
-    match write_load(&mut out, given()) {
-        LoadResult::Ok(filled) => {
-            io::write_all(STDOUT_FILENO, &out[..filled]);
-        }
-        LoadResult::Err(_) => {
-            io::write_all(
-                STDERR_FILENO,
-                b"load: the one argument is a seed, 1 to 4294967295\n",
-            );
-        }
+// Tests whether there is no such argument.
+fn is_missing(copied: Result<usize, FillError>) -> bool {
+    match copied {
+        Ok(_) => false,
+        Err(FillError::NotPresent) => true,
+        Err(FillError::TooLong) => false,
+    }
+}
+
+fn main(rt: HostRuntime) -> io::Result<()> {
+    let mut out = [0u8; 65_536];
+    match write_load(&mut out, given(&rt)) {
+        LoadResult::Ok(filled) => rt.write_all(&out[..filled]),
+        LoadResult::Err(_) => { eprintln!(rt; "load: the one argument is a seed, 1 to 4294967295") }
     }
 }
