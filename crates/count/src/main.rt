@@ -4,8 +4,9 @@
 #![tactic(auto)]
 
 use counting::{print_counts, read_all};
-use libc::{STDIN_FILENO, STDOUT_FILENO};
+use std::io;
 
-fn main() {
-    print_counts(STDOUT_FILENO, read_all(STDIN_FILENO));
+fn main(rt: HostRuntime) -> io::Result<()> {
+    print_counts(&mut rt.stdout(), read_all(&mut rt.stdin()))?;
+    Ok(())
 }

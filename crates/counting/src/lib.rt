@@ -2,7 +2,7 @@
 
 #![tactic(auto)]
 
-ghost use Rattle.std.specs.Prelude.{◌≡◌, length, take};
+ghost use Rattle.std.specs.Prelude.{◌≡◌, ◌≤◌, length, take, IfOk};
 ghost use Rattle.wire.specs.Bytes.{Bytes};
 ghost use Rattle.stream.specs.Length.{link_limit};
 ghost use Rattle.engine.specs.Calls.{feeds};
@@ -11,10 +11,12 @@ ghost use Rattle.parser.specs.Feed.{fresh};
 ghost use Rattle.parser.specs.Engine.{pending_by};
 ghost use Rattle.counting.specs.Counts.{counts_of};
 ghost use Rattle.counting.specs.Counted.{FedAll, Line};
-ghost use Rattle.counting.specs.Reached.{Reached, turn_of, Turned};
-ghost use Rattle.io.specs.Counts.{clamp_len};
+ghost use Rattle.counting.specs.Reached.{Reached, read_len, turn_of, Turned};
 
 use ld2410::{Parser, feed_slice_at};
+use std::io;
+use std::io::{Read, Write};
+use wire::min;
 
 // Feeds all of `bytes`: a slice feed stops after each whole frame, and is called again with the rest. Any parser is
 // left as by feeding the bytes one by one, and has counted what demand 3 says; no bytes leave it as it was. The loop
@@ -47,13 +49,24 @@ struct Turn {
     more: bool,
 }
 
+// Returns how many bytes a read gave, for a buffer of `most`: none if it failed.
+fn read_count(got: io::Result<usize>, most: usize) -> usize
+    ensures counted { result ≡ read_len got most }
+    ensures inside { result ≤ most }
+{
+    match got {
+        Ok(n) => min(n, most),
+        Err(_) => 0,
+    }
+}
+
 // Feeds the bytes that a read put at the start of `buf`, all those and no others; `got` is what the read answered. More
 // may come if there was any. A read that fails counts as the end of the input.
-fn feed_read(parser: Parser, buf: &[u8], got: isize) -> Turn
+fn feed_read(parser: Parser, buf: &[u8], got: io::Result<usize>) -> Turn
     ensures turned { result ≡ turn_of parser buf.now got }
-    ensures bytes { Bytes (take (clamp_len got (length buf.now)) buf.now) }
+    ensures bytes { Bytes (take (read_len got (length buf.now)) buf.now) }
 {
-    let n = io::count(got, buf);
+    let n = read_count(got, buf.len());
     Turn {
         parser: feed_all(parser, &buf[..n]),
         more: n > 0,
@@ -62,24 +75,41 @@ fn feed_read(parser: Parser, buf: &[u8], got: isize) -> Turn
 
 // Reads once, and feeds what came. No contract can name the bytes that a read gives, nor say that the read was made:
 // these three lines are trusted to take the bytes of this contract from the input.
-fn read_some(fd: i32, parser: Parser) -> Turn
+fn read_some<R: Read>(input: &mut R, parser: Parser) -> Turn
     ensures turned { Turned parser result }
 {
-    let mut buf = io::buffer();
-    let got = libc::read(fd, &mut buf);
+    let mut buf = [0u8; 4096];
+    let got = input.read(&mut buf);
     feed_read(parser, &buf, got)
 }
 
-// Feeds all that can be read from `fd` to a fresh parser. A proved loop must end, and nothing says that an input does.
+// Reads until the buffer is full or nothing more comes, and returns how many bytes are then in front. A read that fails
+// counts as the end of the input.
+pub fn read_full<R: Read>(input: &mut R, buf: &mut [u8]) -> usize
+    ensures inside { result ≤ length buf.new }
+{
+    let mut filled = 0;
+    while filled < buf.len() {
+        let most = buf.len() - filled;
+        let n = read_count(input.read(&mut buf[filled..]), most);
+        if n == 0 {
+            return filled;
+        }
+        filled += n;
+    }
+    filled
+}
+
+// Feeds all that can be read from `input` to a fresh parser. A proved loop must end, and nothing says that an input does.
 // So the loop counts its turns down, from a number that no run uses up.
-pub fn read_all(fd: i32) -> Parser
+pub fn read_all<R: Read>(input: &mut R) -> Parser
     ensures reached { Reached fresh result }
     ensures line { Line (counts_of result) }
 {
     let mut at = Parser::new();
     let mut turns = u64::MAX;
     while turns > 0 {
-        let turn = read_some(fd, at);
+        let turn = read_some(input, at);
         let next = turn.parser;
         at = next;
         if !turn.more {
@@ -118,24 +148,24 @@ impl Counts {
 
 // Prints the line `frames resyncs dropped malformed unfinished`: decimal, one space between, a line feed after. Returns
 // the numbers on it; no contract can name what is printed.
-pub fn print_counts(fd: i32, parser: Parser) -> Counts
-    ensures told { result ≡ counts_of parser }
+pub fn print_counts<W: Write>(out: &mut W, parser: Parser) -> io::Result<Counts>
+    ensures told { IfOk result (λ n. n ≡ counts_of parser) }
 {
     let counts = Counts::of(parser);
-    print_line(fd, counts);
-    counts
+    print_line(out, counts)?;
+    Ok(counts)
 }
 
-fn print_line(fd: i32, counts: Counts) {
-    print_number(fd, counts.frames, b" ");
-    print_number(fd, counts.resyncs, b" ");
-    print_number(fd, counts.dropped, b" ");
-    print_number(fd, counts.malformed, b" ");
-    print_number(fd, counts.unfinished as u64, b"\n");
+fn print_line<W: Write>(out: &mut W, counts: Counts) -> io::Result<()> {
+    print_number(out, counts.frames, b" ")?;
+    print_number(out, counts.resyncs, b" ")?;
+    print_number(out, counts.dropped, b" ")?;
+    print_number(out, counts.malformed, b" ")?;
+    print_number(out, counts.unfinished as u64, b"\n")
 }
 
 // Prints a number, and then `end`.
-fn print_number(fd: i32, n: u64, end: &[u8]) {
-    io::print_decimal(fd, n);
-    io::write_all(fd, end);
+fn print_number<W: Write>(out: &mut W, n: u64, end: &[u8]) -> io::Result<()> {
+    write!(out, "{n}")?;
+    out.write_all(end)
 }

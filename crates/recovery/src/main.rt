@@ -8,9 +8,9 @@
 
 #![tactic(auto)]
 
-use counting::feed_all;
+use counting::{feed_all, read_full};
 use ld2410::{FrameKind, MAX_DATA, Parser};
-use libc::STDIN_FILENO;
+use std::io;
 use way::Way;
 use wire::bump;
 
@@ -129,13 +129,13 @@ fn everywhere(way: Way, bytes: &[u8]) -> Cost {
     cost
 }
 
-fn main() {
-    let mut input = io::buffer();
-    let n = io::read_full(STDIN_FILENO, &mut input);
+fn main(rt: HostRuntime) -> io::Result<()> {
+    let mut input = [0u8; 4096];
+    let n = read_full(&mut rt.stdin(), &mut input);
     let bytes = &input[..n];
-    text::cost(b"changed", everywhere(Way::Changed, bytes));
-    text::cost(b"dropped", everywhere(Way::Dropped, bytes));
-    text::cost(b"inserted", everywhere(Way::Inserted, bytes));
-    text::cost(b"noise", everywhere(Way::Noise, bytes));
-    text::bound(MAX_DATA);
+    text::cost(&rt, b"changed", everywhere(Way::Changed, bytes))?;
+    text::cost(&rt, b"dropped", everywhere(Way::Dropped, bytes))?;
+    text::cost(&rt, b"inserted", everywhere(Way::Inserted, bytes))?;
+    text::cost(&rt, b"noise", everywhere(Way::Noise, bytes))?;
+    text::bound(&rt, MAX_DATA)
 }

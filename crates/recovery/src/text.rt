@@ -1,30 +1,30 @@
 // The lines on standard output.
 use crate::Cost;
-use libc::STDOUT_FILENO;
+use std::io;
 
 // Writes bytes as they are.
-fn text(bytes: &[u8]) {
-    io::write_all(STDOUT_FILENO, bytes);
+fn text(rt: &impl Print, bytes: &[u8]) -> io::Result<()> {
+    rt.write_all(bytes)
 }
 
 // Writes a number after the bytes `before`.
-fn number(before: &[u8], n: u64) {
-    text(before);
-    io::print_decimal(STDOUT_FILENO, n);
+fn number(rt: &impl Print, before: &[u8], n: u64) -> io::Result<()> {
+    text(rt, before)?;
+    rt.print(n)
 }
 
 // Writes what the streams of a way cost.
-pub fn cost(name: &[u8], cost: Cost) {
-    text(name);
-    number(b": ", cost.streams);
-    number(b" streams, ", cost.lost);
-    number(b" whole frames lost, at most ", cost.most as u64);
-    number(b" in one, the farthest ", cost.farthest as u64);
-    text(b" bytes after the boundary\n");
+pub fn cost(rt: &impl Print, name: &[u8], cost: Cost) -> io::Result<()> {
+    text(rt, name)?;
+    number(rt, b": ", cost.streams)?;
+    number(rt, b" streams, ", cost.lost)?;
+    number(rt, b" whole frames lost, at most ", cost.most as u64)?;
+    number(rt, b" in one, the farthest ", cost.farthest as u64)?;
+    text(rt, b" bytes after the boundary\n")
 }
 
 // Writes the distance from which on no frame is lost.
-pub fn bound(distance: usize) {
-    number(b"bound: none ", distance as u64);
-    text(b" or more bytes after the boundary\n");
+pub fn bound(rt: &impl Print, distance: usize) -> io::Result<()> {
+    number(rt, b"bound: none ", distance as u64)?;
+    text(rt, b" or more bytes after the boundary\n")
 }

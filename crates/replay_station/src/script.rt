@@ -6,6 +6,7 @@ use replay_io::argument::{rest, u8_at, u16_at};
 use replay_io::commands::{MaybeCommand, command_in};
 use replay_io::line;
 use replay_io::line::{Row, Text};
+use std::io;
 use wire::min;
 
 // The longest buffer that a command is sent into.
@@ -19,19 +20,19 @@ struct Told {
 }
 
 // Makes the events of a script, up to one that is cut short or has no meaning.
-pub fn run(out: &mut Text, taken: usize, op: u8, script: &[u8]) -> usize {
+pub fn run(out: &mut Text, taken: usize, op: u8, script: &[u8]) -> io::Result<usize> {
     let mut session = Session::new();
     let mut n = taken;
     let mut at = 0;
     loop {
         let size = event_size(&script[at..]);
         if size == 0 {
-            return n;
+            return Ok(n);
         }
         let end = at + size;
-        let begun = line::op(out, n, op);
-        let told = event(out, begun, session, &script[at..end]);
-        n = ended(out, told);
+        let begun = line::op(out, n, op)?;
+        let told = event(out, begun, session, &script[at..end])?;
+        n = ended(out, told)?;
         let after = told.session;
         session = after;
         at = end;
@@ -66,19 +67,19 @@ fn send_size(six: &[u8]) -> usize {
 }
 
 // Makes the event that these bytes are, and puts its answer.
-fn event(out: &mut Text, taken: usize, session: Session, bytes: &[u8]) -> Told {
+fn event(out: &mut Text, taken: usize, session: Session, bytes: &[u8]) -> io::Result<Told> {
     match u8_at(bytes, 0) {
         0 => send(out, taken, session, bytes),
         1 => receive(out, taken, session, rest(bytes, 3)),
-        _ => Told {
+        _ => Ok(Told {
             session: session.give_up(),
             taken,
-        },
+        }),
     }
 }
 
 // Sends the command into a buffer as long as the event says.
-fn send(out: &mut Text, taken: usize, session: Session, bytes: &[u8]) -> Told {
+fn send(out: &mut Text, taken: usize, session: Session, bytes: &[u8]) -> io::Result<Told> {
     let fill = u8_at(bytes, 8);
     let mut buffer: [u8; LONGEST] = [fill; LONGEST];
     send_into(out, taken, session, bytes, &mut buffer)
@@ -91,19 +92,19 @@ fn send_into(
     session: Session,
     bytes: &[u8],
     buffer: &mut [u8],
-) -> Told {
+) -> io::Result<Told> {
     let end = min(u8_at(bytes, 7) as usize, buffer.len());
     let MaybeCommand::Some(command) = command_in(rest(bytes, 1)) else {
-        return Told { session, taken };
+        return Ok(Told { session, taken });
     };
     let sent = session.send(command, &mut buffer[0..end]);
     let answer = sent.answer;
     let after = sent.session;
-    let n = line::row(out, taken, returned(answer), 2);
-    Told {
+    let n = line::row(out, taken, returned(answer), 2)?;
+    Ok(Told {
         session: after,
-        taken: line::bytes(out, n, &buffer[0..end]),
-    }
+        taken: line::bytes(out, n, &buffer[0..end])?,
+    })
 }
 
 // Returns the refusal, and the bytes written or needed.
@@ -115,15 +116,15 @@ fn returned(answer: SendResult) -> Row {
 }
 
 // Hands over the frame that the bytes are, and puts whether it ended the wait, and whether `ok` was on.
-fn receive(out: &mut Text, taken: usize, session: Session, bytes: &[u8]) -> Told {
+fn receive(out: &mut Text, taken: usize, session: Session, bytes: &[u8]) -> io::Result<Told> {
     let read = Frame::parse(bytes);
     let received = session.receive(read.frame);
     let answer = received.answer;
     let after = received.session;
-    Told {
+    Ok(Told {
         session: after,
-        taken: line::row(out, taken, ended_by(answer), 2),
-    }
+        taken: line::row(out, taken, ended_by(answer), 2)?,
+    })
 }
 
 fn ended_by(answer: ReceiveResult) -> Row {
@@ -134,10 +135,10 @@ fn ended_by(answer: ReceiveResult) -> Row {
 }
 
 // Ends the line of an event: the session's state, and the word that it awaits.
-fn ended(out: &mut Text, told: Told) -> usize {
+fn ended(out: &mut Text, told: Told) -> io::Result<usize> {
     let session = told.session;
-    let n = line::number(out, told.taken, state_of(session));
-    let n = line::number(out, n, word_of(session));
+    let n = line::number(out, told.taken, state_of(session))?;
+    let n = line::number(out, n, word_of(session))?;
     line::end(out, n)
 }
 

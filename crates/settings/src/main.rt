@@ -5,8 +5,9 @@
 
 #![tactic(auto)]
 
+use counting::read_full;
 use ld2410::{Command, Gate, Parser, ReceiveResult, SendResult, Session};
-use libc::STDIN_FILENO;
+use std::io;
 
 mod text;
 
@@ -38,34 +39,40 @@ fn command(step: u8) -> Command {
 }
 
 // Sends a command, and hands over the frames that come, up to the one that ends the wait.
-fn exchange(at: Turn, command: Command, bytes: &[u8]) -> Turn {
+fn exchange(rt: &impl Print, at: Turn, command: Command, bytes: &[u8]) -> io::Result<Turn> {
     let session = at.session;
     let mut out = [0u8; 30];
     let sent = session.send(command, &mut out);
     let answer = sent.answer;
     match answer {
         SendResult::Ok(n) => {
-            text::sent(&out, n);
+            text::sent(rt, &out, n)?;
             let parser = at.parser;
             let session = sent.session;
-            listen(parser, session, bytes, at.taken)
+            listen(rt, parser, session, bytes, at.taken)
         }
         SendResult::Err(e) => {
-            text::refused(e.number());
+            text::refused(rt, e.number())?;
             let parser = at.parser;
             let session = sent.session;
-            Turn {
+            Ok(Turn {
                 parser,
                 session,
                 taken: at.taken,
-            }
+            })
         }
     }
 }
 
 // Feeds what the module sends, from a place on, and hands over each frame as it comes, until one ends the wait. If no
 // more comes, it gives up the wait.
-fn listen(parser: Parser, session: Session, bytes: &[u8], start: usize) -> Turn {
+fn listen(
+    rt: &impl Print,
+    parser: Parser,
+    session: Session,
+    bytes: &[u8],
+    start: usize,
+) -> io::Result<Turn> {
     let mut parser = parser;
     let mut session = session;
     let mut taken = start;
@@ -81,54 +88,56 @@ fn listen(parser: Parser, session: Session, bytes: &[u8], start: usize) -> Turn 
         match answer {
             ReceiveResult::Passed => {
                 let kind = frame.kind;
-                text::passed(kind);
+                text::passed(rt, kind)?;
             }
             ReceiveResult::Ended(ok) => {
                 let ack = frame.ack;
                 let buf = parser.buf;
-                text::ended(ok, ack, &buf);
-                return Turn {
+                text::ended(rt, ok, ack, &buf)?;
+                return Ok(Turn {
                     parser,
                     session,
                     taken,
-                };
+                });
             }
         }
     }
-    text::given_up();
-    Turn {
+    text::given_up(rt)?;
+    Ok(Turn {
         parser,
         session: session.give_up(),
         taken,
-    }
+    })
 }
 
 // Holds the conversation: sends each command in turn.
-fn converse(start: Turn, bytes: &[u8]) -> Turn {
+fn converse(rt: &impl Print, start: Turn, bytes: &[u8]) -> io::Result<Turn> {
     let mut at = start;
     let mut step = 0;
     while step < 5 {
-        at = exchange(at, command(step), bytes);
+        at = exchange(rt, at, command(step), bytes)?;
         step += 1;
     }
-    at
+    Ok(at)
 }
 
 // Holds three conversations. In the first the module answers as the documents print it, with two reports and two bytes
 // of noise between. In the second it does not open. In the third a command fails, the same command's success comes
 // late, and then nothing but the front of a frame.
-fn main() {
-    let mut input = io::buffer();
-    let n = io::read_full(STDIN_FILENO, &mut input);
+fn main(rt: HostRuntime) -> io::Result<()> {
+    let mut input = [0u8; 4096];
+    let n = read_full(&mut rt.stdin(), &mut input);
     let bytes = &input[..n];
     let first = converse(
+        &rt,
         Turn {
             parser: Parser::new(),
             session: Session::new(),
             taken: 0,
         },
         bytes,
-    );
-    let second = converse(first, bytes);
-    converse(second, bytes);
+    )?;
+    let second = converse(&rt, first, bytes)?;
+    converse(&rt, second, bytes)?;
+    Ok(())
 }

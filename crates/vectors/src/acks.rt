@@ -6,81 +6,82 @@ use crate::text::{Row, bytes, form, gates, number, text};
 use ld2410::{
     Ack, AckResult, EnableConfigResult, FirmwareVersionResult, ParametersResult, SpanResult, word,
 };
+use std::io;
 
 // Writes the row of an acknowledgement's data, with a word awaited.
-pub fn in_data(label: &[u8], data: &[u8], awaited: u16) {
-    text(label);
+pub fn in_data(rt: &impl Print, label: &[u8], data: &[u8], awaited: u16) -> io::Result<()> {
+    text(rt, label)?;
     match Ack::parse(data) {
         AckResult::Ok(ack) => {
-            text(b": refusal 0");
-            fields(ack, awaited);
-            text(b"\n");
+            text(rt, b": refusal 0")?;
+            fields(rt, ack, awaited)?;
+            text(rt, b"\n")
         }
-        AckResult::Err(e) => number(b": refusal %\n", e.number() as u64),
+        AckResult::Err(e) => number(rt, b": refusal %\n", e.number() as u64),
     }
 }
 
 // Writes the row of a whole frame whose acknowledgement has no reply.
-pub fn plain(label: &[u8], frame: [u8; PLAIN], awaited: u16) {
-    in_frame(label, &frame, awaited);
-    text(b"\n");
+pub fn plain(rt: &impl Print, label: &[u8], frame: [u8; PLAIN], awaited: u16) -> io::Result<()> {
+    in_frame(rt, label, &frame, awaited)?;
+    text(rt, b"\n")
 }
 
 // Writes the row of `EnableConfig`'s acknowledgement, with its reply; the three below do so for theirs.
-pub fn enable_config(label: &[u8], frame: &[u8]) {
-    let ack = in_frame(label, frame, word::ENABLE_CONFIG);
+pub fn enable_config(rt: &impl Print, label: &[u8], frame: &[u8]) -> io::Result<()> {
+    let ack = in_frame(rt, label, frame, word::ENABLE_CONFIG)?;
     match ack.enable_config(frame) {
         EnableConfigResult::Ok(c) => {
             let version = c.protocol_version as u64;
             let row = [version, c.buffer_size as u64, 0, 0, 0, 0, 0];
-            form(b", version %, buffer %\n", row);
+            form(rt, b", version %, buffer %\n", row)
         }
-        EnableConfigResult::Err(e) => refused(e.number()),
+        EnableConfigResult::Err(e) => refused(rt, e.number()),
     }
 }
 
-pub fn firmware_version(label: &[u8], frame: &[u8]) {
-    let ack = in_frame(label, frame, word::READ_FIRMWARE);
+pub fn firmware_version(rt: &impl Print, label: &[u8], frame: &[u8]) -> io::Result<()> {
+    let ack = in_frame(rt, label, frame, word::READ_FIRMWARE)?;
     match ack.firmware_version(frame) {
         FirmwareVersionResult::Ok(v) => {
             let kind = v.firmware_type as u64;
             let row = [kind, v.major as u64, v.minor as u64, 0, 0, 0, 0];
-            form(b", type #, major #, minor @\n", row);
+            form(rt, b", type #, major #, minor @\n", row)
         }
-        FirmwareVersionResult::Err(e) => refused(e.number()),
+        FirmwareVersionResult::Err(e) => refused(rt, e.number()),
     }
 }
 
 // Writes the refusal of a reply.
-fn refused(refusal: u8) {
-    number(b", reply %\n", refusal as u64);
+fn refused(rt: &impl Print, refusal: u8) -> io::Result<()> {
+    number(rt, b", reply %\n", refusal as u64)
 }
 
-pub fn mac(label: &[u8], frame: &[u8]) {
-    let ack = in_frame(label, frame, word::READ_MAC);
+pub fn mac(rt: &impl Print, label: &[u8], frame: &[u8]) -> io::Result<()> {
+    let ack = in_frame(rt, label, frame, word::READ_MAC)?;
     let reply = ack.mac(frame);
     let outcome = reply.outcome;
     let mac = reply.mac;
     let address = mac.0;
-    number(b", reply %, address", outcome.number() as u64);
-    bytes(&address);
-    text(b"\n");
+    number(rt, b", reply %, address", outcome.number() as u64)?;
+    bytes(rt, &address)?;
+    text(rt, b"\n")
 }
 
-pub fn parameters(label: &[u8], frame: &[u8]) {
-    let ack = in_frame(label, frame, word::READ_PARAMETERS);
-    parameters_reply(ack.parameters(frame));
+pub fn parameters(rt: &impl Print, label: &[u8], frame: &[u8]) -> io::Result<()> {
+    let ack = in_frame(rt, label, frame, word::READ_PARAMETERS)?;
+    parameters_reply(rt, ack.parameters(frame))
 }
 
-fn parameters_reply(reply: ParametersResult) {
+fn parameters_reply(rt: &impl Print, reply: ParametersResult) -> io::Result<()> {
     let p = reply.parameters;
     let moving = p.moving_sensitivity;
     let stationary = p.stationary_sensitivity;
-    form(b", reply %, farthest ~ ~ ~, moving", farthest(reply));
-    gates(moving);
-    text(b", stationary");
-    gates(stationary);
-    number(b", seconds %\n", p.no_one_secs as u64);
+    form(rt, b", reply %, farthest ~ ~ ~, moving", farthest(reply))?;
+    gates(rt, moving)?;
+    text(rt, b", stationary")?;
+    gates(rt, stationary)?;
+    number(rt, b", seconds %\n", p.no_one_secs as u64)
 }
 
 // Returns the refusal and the farthest gates.
@@ -99,18 +100,19 @@ fn farthest(reply: ParametersResult) -> Row {
 }
 
 // Writes the front of a row about a whole frame, and returns the acknowledgement, whose payload is in `bytes`.
-fn in_frame(label: &[u8], bytes: &[u8], awaited: u16) -> Ack {
-    let frame = frames::read(label, bytes);
+fn in_frame(rt: &impl Print, label: &[u8], bytes: &[u8], awaited: u16) -> io::Result<Ack> {
+    let frame = frames::read(rt, label, bytes)?;
     let ack = frame.ack;
-    fields(ack, awaited);
-    ack
+    fields(rt, ack, awaited)?;
+    Ok(ack)
 }
 
-fn fields(ack: Ack, awaited: u16) {
+fn fields(rt: &impl Print, ack: Ack, awaited: u16) -> io::Result<()> {
     form(
+        rt,
         b", word #, ok %, status #, payload % %, awaited #: %",
         row(ack, awaited),
-    );
+    )
 }
 
 // Returns the fields, the awaited word, and what `expect` of it refuses.

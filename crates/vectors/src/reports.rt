@@ -2,31 +2,33 @@
 use crate::frames;
 use crate::text::{Row, bytes, form, gates, number, text};
 use ld2410::{Engineering, Report};
+use std::io;
 
 // Writes the row of a report in a whole frame.
-pub fn in_frame(label: &[u8], bytes: &[u8]) {
-    let frame = frames::read(label, bytes);
-    fields(frame.report);
+pub fn in_frame(rt: &impl Print, label: &[u8], bytes: &[u8]) -> io::Result<()> {
+    let frame = frames::read(rt, label, bytes)?;
+    fields(rt, frame.report)
 }
 
 // Writes the row of a report's data.
-pub fn in_data(label: &[u8], data: &[u8]) {
+pub fn in_data(rt: &impl Print, label: &[u8], data: &[u8]) -> io::Result<()> {
     let read = Report::parse(data);
     let outcome = read.outcome;
-    text(label);
-    number(b": refusal %", outcome.number() as u64);
-    fields(read.report);
+    text(rt, label)?;
+    number(rt, b": refusal %", outcome.number() as u64)?;
+    fields(rt, read.report)
 }
 
-fn fields(report: Report) {
+fn fields(rt: &impl Print, report: Report) -> io::Result<()> {
     form(
+        rt,
         b", state %, moving % %, stationary % %, detection %",
         basic(report),
-    );
+    )?;
     if report.is_engineering() {
-        engineering(report.engineering);
+        engineering(rt, report.engineering)?;
     }
-    text(b"\n");
+    text(rt, b"\n")
 }
 
 // Returns the fields but the engineering block.
@@ -43,14 +45,14 @@ fn basic(report: Report) -> Row {
     ]
 }
 
-fn engineering(block: Engineering) {
+fn engineering(rt: &impl Print, block: Engineering) -> io::Result<()> {
     let moving = block.moving_energy;
     let stationary = block.stationary_energy;
     let extra = block.extra;
-    number(b", moving gates %:", block.moving_gates as u64);
-    gates(moving);
-    number(b", stationary gates %:", block.stationary_gates as u64);
-    gates(stationary);
-    number(b", reserved %:", block.extra_len as u64);
-    bytes(&extra);
+    number(rt, b", moving gates %:", block.moving_gates as u64)?;
+    gates(rt, moving)?;
+    number(rt, b", stationary gates %:", block.stationary_gates as u64)?;
+    gates(rt, stationary)?;
+    number(rt, b", reserved %:", block.extra_len as u64)?;
+    bytes(rt, &extra)
 }

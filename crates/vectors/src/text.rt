@@ -2,37 +2,37 @@
 ghost use Rattle.std.specs.Prelude.{◌<◌};
 
 use ld2410::GATES;
-use libc::STDOUT_FILENO;
+use std::io;
 
 // The numbers of a form, with zeros after them.
 pub type Row = [u64; 7];
 
 // Writes bytes as they are.
-pub fn text(bytes: &[u8]) {
-    io::write_all(STDOUT_FILENO, bytes);
+pub fn text(rt: &impl Print, bytes: &[u8]) -> io::Result<()> {
+    rt.write_all(bytes)
 }
 
 // Writes the byte of a form, or the number in its place: `%` in decimal, `~`, `#` and `@` in hexadecimal with at least
 // two, four and eight digits. Returns whether it was the number.
-fn piece(byte: u8, number: u64) -> bool {
+fn piece(rt: &impl Print, byte: u8, number: u64) -> io::Result<bool> {
     match byte {
         b'%' => {
-            io::print_decimal(STDOUT_FILENO, number);
-            true
+            rt.print(number)?;
+            Ok(true)
         }
-        b'~' => hex(number, 2),
-        b'#' => hex(number, 4),
-        b'@' => hex(number, 8),
+        b'~' => hex(rt, number, 2),
+        b'#' => hex(rt, number, 4),
+        b'@' => hex(rt, number, 8),
         _ => {
-            text(&[byte]);
-            false
+            text(rt, &[byte])?;
+            Ok(false)
         }
     }
 }
 
-fn hex(number: u64, width: usize) -> bool {
-    io::print_hex(STDOUT_FILENO, number, width);
-    true
+fn hex(rt: &impl Print, number: u64, width: usize) -> io::Result<bool> {
+    print!(rt; "{number:0width$x}")?;
+    Ok(true)
 }
 
 // Returns the place in a row after this one, if its number is used; the first one after the last.
@@ -50,27 +50,29 @@ fn next(at: usize, used: bool) -> usize
 }
 
 // Writes a form, with a number of the row for each mark in it.
-pub fn form(bytes: &[u8], row: Row) {
+pub fn form(rt: &impl Print, bytes: &[u8], row: Row) -> io::Result<()> {
     let mut at = 0;
     let mut i = 0;
     while i < bytes.len() {
-        at = next(at, piece(bytes[i], row[at]));
+        at = next(at, piece(rt, bytes[i], row[at])?);
         i += 1;
     }
+    Ok(())
 }
 
 // Writes a form with one number.
-pub fn number(bytes: &[u8], number: u64) {
-    form(bytes, [number, 0, 0, 0, 0, 0, 0]);
+pub fn number(rt: &impl Print, bytes: &[u8], number: u64) -> io::Result<()> {
+    form(rt, bytes, [number, 0, 0, 0, 0, 0, 0])
 }
 
 // Writes bytes in hexadecimal.
-pub fn bytes(values: &[u8]) {
+pub fn bytes(rt: &impl Print, values: &[u8]) -> io::Result<()> {
     let mut i = 0;
     while i < values.len() {
-        number(b" ~", wide(values[i]));
+        number(rt, b" ~", wide(values[i]))?;
         i += 1;
     }
+    Ok(())
 }
 
 fn wide(byte: u8) -> u64 {
@@ -78,6 +80,6 @@ fn wide(byte: u8) -> u64 {
 }
 
 // Writes a byte for each gate.
-pub fn gates(values: [u8; GATES]) {
-    bytes(&values);
+pub fn gates(rt: &impl Print, values: [u8; GATES]) -> io::Result<()> {
+    bytes(rt, &values)
 }
