@@ -10,7 +10,6 @@ use Rattle.wire.specs.declared.Kind.{Kind}
 use Rattle.wire.specs.declared.Kind.TheVariants.{Report, Command}
 use Rattle.scan.specs.Start.{abandoned, start_of}
 use Rattle.scan.specs.declared.stats.Stats.{Stats}
-use Rattle.scan.specs.declared.stats.Stepped.{Stepped}
 use Rattle.step.specs.Step.{step_header, step_tail}
 use Rattle.tables.specs.Table.{marks, class_of, header_state, tail_state, next_of, first_next}
 use Rattle.feed.specs.States.{given_up, step_to}

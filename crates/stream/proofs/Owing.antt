@@ -23,7 +23,6 @@ use Rattle.stream.proofs.Words.{fails, range_true}
 use Rattle.stream.proofs.Steps.{length_not_whole, data_not_whole}
 use Rattle.stream.proofs.Link.{link, not_open, not_whole}
 use Rattle.stream.proofs.Traps.{length_opened}
-use Rattle.stream.proofs.Idle as Idle
 use Rattle.stream.proofs.Idle.{second, second_plain}
 use Rattle.stream.proofs.Idle.{Idle, Ready, first, idle_ready, header_ready, ready_if, plain_strays, whole_as}
 use Rattle.stream.proofs.Clean.{Quiet, quiet_drop, quiet_idle, second_high}

@@ -1,7 +1,6 @@
 -- `wire::gate_array` meets its contract. The loop's invariant: the first `gate` bytes of `src` are copied over the
 -- zeros, and `count` is how many fit, at most nine. The measure is `count` - `gate`. Assumes nothing.
 use mathlib.Core.Path.{◌∙◌}
-use Prim.Native.Nat.{◌-◌}
 use native.Mathlib.Omega.{arith}
 use Rattle.wire.proofs.Prefixes.{over_nil, front_more, pasted_over, pasted_front, prefixed_zeros}
 use Rattle.wire.proofs.gate_array.Goals as goal

@@ -1,7 +1,4 @@
 -- `feed::store` meets its contract: a well-formed scan has room for a data byte. Assumes nothing.
-use mathlib.Core.Path.{◌≡◌}
-use mathlib.Core.Logic.{◌⊎◌, ⊎_elim}
-use Prim.Native.Nat.{ℕ}
 use native.Mathlib.Omega.{arith}
 use Rattle.stream.specs.Length.{link_limit}
 use Rattle.scan.proofs.Orders.{data_inside, data_most}

@@ -2,7 +2,7 @@
 -- from here, comes to what all of them come to. The measure is their number. Assumes nothing.
 use borrow.Author.Rules.{rules}
 use mathlib.Core.Path.{refl, ap}
-use Prim.Native.Nat.{◌-◌, ◌+◌}
+use Prim.Native.Nat.{◌+◌}
 use native.Mathlib.Omega.{arith}
 use Rattle.stream.specs.Length.{link_limit}
 use Rattle.scan.specs.Start.{taking_of}

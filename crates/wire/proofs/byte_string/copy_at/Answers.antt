@@ -1,7 +1,6 @@
 -- `wire::copy_at` meets its contract. The loop's invariant: the first i bytes of `src` are copied into `dst`
 -- from `at` on, and n is how many fit. The measure is n - i. Assumes nothing.
 use mathlib.Core.Path.{refl, ◌∙◌}
-use Prim.Native.Nat.{◌-◌}
 use native.Mathlib.Omega.{arith}
 use lib.ListN.{length-set}
 use Rattle.wire.proofs.Prefixes.{over_nil, over_more, pasted_over, pasted_nil}

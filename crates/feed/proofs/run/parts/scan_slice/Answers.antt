@@ -1,7 +1,6 @@
 -- `feed::parts::scan_slice` meets its contract. The loop's invariant is `Left`, that the run of the bytes that are left
 -- is the run of all, and that no frame ended. The measure is how many are left. Assumes nothing.
 use mathlib.Core.Path.{refl, ap}
-use Prim.Native.Nat.{◌-◌}
 use native.Mathlib.Omega.{arith}
 use Rattle.step.specs.Slice.{Run}
 use Rattle.step.proofs.Runs.{left_start, left_end, left_frame, left_on}

@@ -1,8 +1,7 @@
 -- `feed::parts::take_data` meets its contract. The loop's invariant is `Copied`: with j bytes copied, the run from here
 -- is the run from the start. The measure is what is left to copy. Assumes nothing.
 use mathlib.Core.Path.{◌≡◌}
-use mathlib.Core.Logic.{◌⊎◌, ⊎_elim}
-use Prim.Native.Nat.{ℕ, ◌-◌}
+use Prim.Native.Nat.{ℕ}
 use native.Mathlib.Omega.{arith}
 use Rattle.stream.specs.Length.{link_limit}
 use Rattle.step.specs.Phase.{AtState}

@@ -1,10 +1,9 @@
 -- `feed::parts::take_part` meets its contract. The loop's invariant is `Within`: the state is that in which the loop
 -- began, and the run from here is the run from the start. The measure is how many bytes are left. Assumes nothing.
-use borrow.Author.Tests.{ltb-true, not-false}
+use borrow.Author.Tests.{ltb-true}
 use mathlib.Core.Path.{◌≡◌, sym, ◌∙◌}
 use mathlib.Core.Bool.{true, true≢false}
-use mathlib.Core.Logic.{⊎_elim}
-use Prim.Native.Nat.{◌+◌, ◌-◌}
+use Prim.Native.Nat.{◌+◌}
 use native.Mathlib.Omega.{arith}
 use Rattle.stream.specs.Length.{link_limit}
 use Rattle.scan.specs.declared.State.TheVariants.{Header, Len, Tail}
