@@ -1,39 +1,18 @@
--- The rows of requests 8 and 9 hold: what a row says is what is computed.
+-- The rows of the table engine hold: what a row says is what is computed.
 use mathlib.Core.Path.{◌≡◌, refl, ap}
 use mathlib.Core.List.{List, map}
 use Prim.Native.Nat.{ℕ}
-use lib.ListN.{length}
 use Rattle.wire.specs.Counter.{bumped}
-use Rattle.wire.specs.Family.{framed}
 use Rattle.scan.specs.Start.{abandoned, start_of}
 use Rattle.scan.specs.declared.stats.Stepped.{Stepped}
 use Rattle.step.specs.Step.{step_of}
 use Rattle.tables.specs.Table.{class_of}
 use Rattle.feed.specs.States.{in_state}
 use Rattle.parser.specs.Feed.{no_stats}
-use Rattle.writer.specs.Written.{written}
-use Rattle.load_writer.specs.Draw.{draw_of}
-use Rattle.load_writer.specs.Load.{piece, laid_down}
-use Rattle.load_writer.specs.Answer.{load_result, load_buffer}
-use Rattle.load_writer.specs.declared.LoadResult.{LoadResult}
-use Rattle.cases.specs.Row.{LoadRow, LoadHolds}
 use Rattle.cases.specs.Walk.{Walk, walked, table_step, first_step, steps_by, stats_by, WalkHolds}
-use Rattle.cases.specs.Loads.{loads}
 use Rattle.cases.specs.Walks.{walks}
-
--- A load's answer and buffer, as computed and as the row says.
-abbrev pub wrote : LoadRow → LoadResult × List ℕ
-wrote r = (load_result r.seed (length r.before), load_buffer r.seed r.before)
-
-abbrev pub asked : LoadRow → LoadResult × List ℕ
-asked r = (r.answer, r.after)
-
-pub loads_computed : map wrote loads ≡ map asked loads
-unfolding load_result load_buffer written framed draw_of piece laid_down
-loads_computed = refl
-
-pub load_holds : (r : LoadRow) → wrote r ≡ asked r → LoadHolds r
-load_holds r e = record { answered = ap (λ x. x.0) e; left = ap (λ x. x.1) e }
+use Rattle.cases.specs.Claims.{AllWalk}
+use Rattle.cases.proofs.Agree.{rows_hold}
 
 -- A walk's states, counters and steps by the tables, as computed and as the row or the first engine says.
 pub record Walked : Type 0 where
@@ -72,3 +51,6 @@ walk_holds r e = record {
   lost = ap (λ (x : Walked). x.dropped) e;
   same = ap (λ (x : Walked). x.steps) e;
 }
+
+pub all_walk : AllWalk
+all_walk = rows_hold passed meant (λ (r : Walk). r) WalkHolds walk_holds walks walks_computed

@@ -3,6 +3,7 @@
 use mathlib.Core.Path.{◌≡◌, refl, subst, ap}
 use mathlib.Core.List.{List, ◌++◌, map}
 use mathlib.Core.Bool.{Bool, true, not}
+use Prim.Native.Nat.{ℕ}
 use lib.ListN.{length}
 use borrow.Author.Tests.{not-true}
 use Rattle.refusal.specs.declared.Error.TheVariants.{UnknownCommand}
@@ -47,19 +48,20 @@ use Rattle.session.specs.Session.{send_of, buffer_of, receive_of, give_up_of}
 use Rattle.session.specs.Machine.{Response, Conversation}
 use Rattle.session.specs.Claims.{session_call}
 use Rattle.session.proofs.Moved.{any_run}
+use Rattle.load_writer.specs.Draw.{draw_of}
+use Rattle.load_writer.specs.Load.{piece, laid_down}
+use Rattle.load_writer.specs.Answer.{load_result, load_buffer}
+use Rattle.load_writer.specs.declared.LoadResult.{LoadResult}
 use Rattle.cases.specs.Row.{Numbers, added_up, counted_by, Stream, StreamHolds, Run, RunHolds}
-use Rattle.cases.specs.Row.{CommandRow, encodes, parses, CommandHolds, Talk, TalkHolds}
-use Rattle.cases.specs.Row.{stream, run, command, talk, load, walk, Holds}
+use Rattle.cases.specs.Row.{CommandRow, encodes, parses, CommandHolds, Talk, TalkHolds, LoadRow, LoadHolds}
+use Rattle.cases.specs.Row.{stream, run, command, talk, load, Holds}
 use Rattle.cases.specs.Streams.{streams}
 use Rattle.cases.specs.Runs.{runs}
 use Rattle.cases.specs.Commands.{commands}
 use Rattle.cases.specs.Talks.{talks}
 use Rattle.cases.specs.Loads.{loads}
-use Rattle.cases.specs.Walks.{walks}
 use Rattle.cases.specs.Claims.{AllHold}
 use Rattle.cases.proofs.Agree.{rows_hold}
-use Rattle.cases.proofs.Requests.{wrote, asked, loads_computed, load_holds}
-use Rattle.cases.proofs.Requests.{passed, meant, walks_computed, walk_holds}
 
 -- A stream's pieces and numbers, as computed and as the row says.
 record Found : Type 0 where
@@ -166,19 +168,30 @@ talk_holds r e = record {
   stood = ap (λ (x : Spoken). x.left) e;
 }
 
--- The whole table is these six, joined.
+-- A load's answer and buffer, as computed and as the row says.
+abbrev wrote : LoadRow → LoadResult × List ℕ
+wrote r = (load_result r.seed (length r.before), load_buffer r.seed r.before)
+
+abbrev asked : LoadRow → LoadResult × List ℕ
+asked r = (r.answer, r.after)
+
+loads_computed : map wrote loads ≡ map asked loads
+unfolding load_result load_buffer written framed draw_of piece laid_down
+loads_computed = refl
+
+load_holds : (r : LoadRow) → wrote r ≡ asked r → LoadHolds r
+load_holds r e = record { answered = ap (λ x. x.0) e; left = ap (λ x. x.1) e }
+
+-- The whole table is these five, joined.
 pub all_hold : AllHold
 all_hold =
     every_append Holds (map stream streams)
-    (map run runs ++ (map command commands ++ (map talk talks ++ (map load loads ++ map walk walks))))
+    (map run runs ++ (map command commands ++ (map talk talks ++ map load loads)))
     (rows_hold found said stream Holds stream_holds streams streams_computed)
-    (every_append Holds (map run runs)
-    (map command commands ++ (map talk talks ++ (map load loads ++ map walk walks)))
+    (every_append Holds (map run runs) (map command commands ++ (map talk talks ++ map load loads))
     (rows_hold ran told run Holds run_holds runs runs_computed)
-    (every_append Holds (map command commands) (map talk talks ++ (map load loads ++ map walk walks))
+    (every_append Holds (map command commands) (map talk talks ++ map load loads)
     (rows_hold done stated command Holds command_holds commands commands_computed)
-    (every_append Holds (map talk talks) (map load loads ++ map walk walks)
+    (every_append Holds (map talk talks) (map load loads)
     (rows_hold spoken wanted talk Holds talk_holds talks talks_computed)
-    (every_append Holds (map load loads) (map walk walks)
-    (rows_hold wrote asked load Holds load_holds loads loads_computed)
-    (rows_hold passed meant walk Holds walk_holds walks walks_computed)))))
+    (rows_hold wrote asked load Holds load_holds loads loads_computed))))

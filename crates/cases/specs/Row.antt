@@ -12,7 +12,7 @@
 --   TalkHolds r      the row holds by request 2's machine, and by what the contracts of a session cite
 --   LoadRow          a load written: its seed, the answer, and the buffer before and after
 --   LoadHolds r      the row holds by what the contract of `write_load` cites
---   Row              a row of any of these kinds, or a walk (Walk.antt); Holds r says when it holds
+--   Row              a row of any of these kinds; Holds r says when it holds
 use Rattle.std.specs.Prelude.{◌≡◌, List, ℕ, length}
 use Rattle.stream.specs.Length.{link_limit}
 use Rattle.framing.specs.Piece.{Piece}
@@ -36,7 +36,6 @@ use Rattle.session.specs.Machine.{Event, Response, Conversation}
 use Rattle.session.specs.Claims.{session_call}
 use Rattle.load_writer.specs.Answer.{load_result, load_buffer}
 use Rattle.load_writer.specs.declared.LoadResult.{LoadResult}
-use Rattle.cases.specs.Walk.{Walk, WalkHolds}
 
 pub record Numbers : Type 0 where
   pub frames : ℕ
@@ -126,7 +125,6 @@ pub data Row : Type 0 where
   command : (r : CommandRow) → Row
   talk : (r : Talk) → Row
   load : (r : LoadRow) → Row
-  walk : (r : Walk) → Row
 
 abbrev pub Holds : Row → Type 0
 Holds (stream r) = StreamHolds r
@@ -134,4 +132,3 @@ Holds (run r) = RunHolds r
 Holds (command r) = CommandHolds r
 Holds (talk r) = TalkHolds r
 Holds (load r) = LoadHolds r
-Holds (walk r) = WalkHolds r
