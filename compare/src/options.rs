@@ -16,9 +16,9 @@ usage: compare/run [--original FILE] [options]
   --answer                answer the cases on standard input, as our programs do
 options
   --original FILE         the original Rust file
-  --ours PROGRAM          our program (default target/bin/replay)
-  --station PROGRAM       our program of op 20 (default target/bin/replay_station)
-  --ld2450 PROGRAM        our program of ops 30 to 32 (default target/bin/replay_ld2450)
+  --ours PROGRAM          our program (default crates/replay/out/replay)
+  --station PROGRAM       our program of op 20 (default crates/replay_station/out/replay_station)
+  --ld2450 PROGRAM        our program of ops 30 to 32 (default crates/replay_ld2450/out/replay_ld2450)
   --crates DIR            the folder of the stored lists (default crates)
   --ops 1,2,3             these ops alone (default: all)
   --seed N                seed of the random cases (default 1)
@@ -48,7 +48,7 @@ pub struct Options {
 pub fn parse(mut arguments: impl Iterator<Item = String>) -> Result<Options, String> {
     let mut options = Options {
         mode: Mode::Compare,
-        paths: PROGRAMS.map(|program| Path::new("target/bin").join(program.name)),
+        paths: PROGRAMS.map(|program| Path::new("crates").join(program.name).join("out").join(program.name)),
         crates: "crates".into(),
         ops: programs::ops(),
         seed: 1,

@@ -3,7 +3,7 @@
 use crate::case::Case;
 
 pub struct Program {
-    /// Its name in target/bin, which is that of its directory in crates.
+    /// Its name, which is that of its directory in crates; `rt run` leaves it in out/ there.
     pub name: &'static str,
     /// The option that gives its path.
     pub option: &'static str,
