@@ -4,9 +4,7 @@
 #![tactic(auto)]
 
 use counting::{print_counts, read_all};
-use std::io;
 
-fn main(rt: HostRuntime) -> io::Result<()> {
-    print_counts(&mut rt.stdout(), read_all(&mut rt.stdin()))?;
-    Ok(())
+fn main(rt: HostRuntime) {
+    print_counts(&mut rt.stdout(), read_all(&mut rt.stdin()));
 }

@@ -19,9 +19,8 @@ impl Read for Missing {
 }
 
 // Prints the parser's numbers on a line.
-fn show<W: Write>(out: &mut W, parser: Parser) -> io::Result<()> {
-    print_counts(out, parser)?;
-    Ok(())
+fn show<W: Write>(out: &mut W, parser: Parser) {
+    print_counts(out, parser);
 }
 
 // Feeds the frame again and again in two parts: cut at each place, its two ends included.
@@ -34,26 +33,26 @@ fn cut_everywhere(frame: &[u8]) -> Parser {
     at
 }
 
-fn main(rt: HostRuntime) -> io::Result<()> {
+fn main(rt: HostRuntime) {
     let mut input = rt.stdin();
     let mut out = rt.stdout();
     // The stored input: B 400 times, which is longer than two read buffers. 400 frames.
-    show(&mut out, read_all(&mut input))?;
+    show(&mut out, read_all(&mut input));
     // Standard input again, now at its end: the empty input.
-    show(&mut out, read_all(&mut input))?;
+    show(&mut out, read_all(&mut input));
     // No input at all: the read fails, which counts as the end.
-    show(&mut out, read_all(&mut Missing))?;
+    show(&mut out, read_all(&mut Missing));
     // 5,000 bytes F4, in one call: each but the last is a start that the next one breaks.
-    show(&mut out, feed_all(Parser::new(), &[0xF4; 5000]))?;
+    show(&mut out, feed_all(Parser::new(), &[0xF4; 5000]));
     // "F4 F3, then reset: all counters 0", before the reset and after it.
     let begun = feed_all(Parser::new(), &[0xF4, 0xF3]);
-    show(&mut out, begun)?;
-    show(&mut out, begun.cleared())?;
+    show(&mut out, begun);
+    show(&mut out, begun.cleared());
     // Document 01's case B in two parts, cut at each of its 24 places: 24 frames.
     show(
         &mut out,
         cut_everywhere(
             b"\xF4\xF3\xF2\xF1\x0D\x00\x02\xAA\x03\x78\x00\x3C\x96\x00\x2D\xC8\x00\x55\x00\xF8\xF7\xF6\xF5",
         ),
-    )
+    );
 }

@@ -5,15 +5,14 @@ use ld2410::{Baud, Command, CommandResult, Gate, MaybeBaud, read_command};
 use replay_io::argument::u16_at;
 use replay_io::commands::{MaybeCommand, command_in};
 use replay_io::line::{Row, Text, bytes, none, number, row};
-use std::io;
 use writer::u16_bytes;
 
 // Answers op 6, on a buffer and a command: what its writer puts, then the command's word and size.
-pub fn encode(out: &mut Text, taken: usize, argument: &[u8]) -> io::Result<usize> {
+pub fn encode(out: &mut Text, taken: usize, argument: &[u8]) -> usize {
     match command_in(writers::value_in(argument)) {
         MaybeCommand::Some(command) => {
-            let n = writers::write(out, taken, 6, argument)?;
-            let n = number(out, n, command.word() as u64)?;
+            let n = writers::write(out, taken, 6, argument);
+            let n = number(out, n, command.word() as u64);
             number(out, n, command.encoded_len() as u64)
         }
         MaybeCommand::None => none(out, taken),
@@ -21,7 +20,7 @@ pub fn encode(out: &mut Text, taken: usize, argument: &[u8]) -> io::Result<usize
 }
 
 // Answers op 9, on the bytes of a command's frame.
-pub fn read(out: &mut Text, taken: usize, data: &[u8]) -> io::Result<usize> {
+pub fn read(out: &mut Text, taken: usize, data: &[u8]) -> usize {
     bytes(out, taken, &read_in(data))
 }
 
@@ -74,7 +73,7 @@ fn two_of(gate: Gate) -> [u8; 2] {
 }
 
 // Answers op 12, on a rate's index.
-pub fn baud(out: &mut Text, taken: usize, argument: &[u8]) -> io::Result<usize> {
+pub fn baud(out: &mut Text, taken: usize, argument: &[u8]) -> usize {
     row(out, taken, rate(u16_at(argument, 0)), 3)
 }
 

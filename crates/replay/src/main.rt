@@ -17,11 +17,10 @@ mod writers;
 use replay_io::input::{next_case, nothing_read};
 use replay_io::line::Text;
 use replay_io::{input, line};
-use std::io;
 use std::io::Stdin;
 
 // Answers every case. The turns are counted down, from a number that no run uses up, so that the loop ends.
-fn run(from: &mut Stdin, input: &mut [u8], out: &mut Text) -> io::Result<()> {
+fn run(from: &mut Stdin, input: &mut [u8], out: &mut Text) {
     let mut case = nothing_read();
     let mut taken = 0;
     let mut turns = u64::MAX;
@@ -31,20 +30,19 @@ fn run(from: &mut Stdin, input: &mut [u8], out: &mut Text) -> io::Result<()> {
         let end = case.end;
         let found = case.found;
         if !case.is_case() {
-            line::finish(out, taken, found)?;
-            return Ok(());
+            line::finish(out, taken, found);
+            return;
         }
-        taken = ops::answer(out, taken, &input[start..end])?;
+        taken = ops::answer(out, taken, &input[start..end]);
         turns -= 1;
     }
-    Ok(())
 }
 
-fn main(rt: HostRuntime) -> io::Result<()> {
+fn main(rt: HostRuntime) {
     let mut input = [0u8; input::SIZE];
     let mut out = Text {
         bytes: [0; line::SIZE],
         to: rt.stdout(),
     };
-    run(&mut rt.stdin(), &mut input, &mut out)
+    run(&mut rt.stdin(), &mut input, &mut out);
 }

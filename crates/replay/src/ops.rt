@@ -4,10 +4,9 @@ use replay_io::argument::{rest, u8_at};
 use replay_io::input::HEAD;
 use replay_io::line;
 use replay_io::line::Text;
-use std::io;
 
 // Puts the answer to a case: the lines of a script, or one line.
-pub fn answer(out: &mut Text, taken: usize, case: &[u8]) -> io::Result<usize> {
+pub fn answer(out: &mut Text, taken: usize, case: &[u8]) -> usize {
     let op = u8_at(case, 0);
     let argument = rest(case, HEAD);
     if is_script(op, argument) {
@@ -36,13 +35,13 @@ fn is_script(op: u8, argument: &[u8]) -> bool {
 }
 
 // Puts the answer of an op that has one line.
-fn one_line(out: &mut Text, taken: usize, op: u8, argument: &[u8]) -> io::Result<usize> {
-    let n = line::op(out, taken, op)?;
+fn one_line(out: &mut Text, taken: usize, op: u8, argument: &[u8]) -> usize {
+    let n = line::op(out, taken, op);
     let n = if has_answer(op, argument) {
         fields(out, n, op, argument)
     } else {
         line::none(out, n)
-    }?;
+    };
     line::end(out, n)
 }
 
@@ -68,7 +67,7 @@ fn has_answer(op: u8, argument: &[u8]) -> bool {
 }
 
 // Puts what follows the op in its line.
-fn fields(out: &mut Text, taken: usize, op: u8, argument: &[u8]) -> io::Result<usize> {
+fn fields(out: &mut Text, taken: usize, op: u8, argument: &[u8]) -> usize {
     match op {
         1 => readers::target_state(out, taken, argument),
         2 => readers::report(out, taken, argument),

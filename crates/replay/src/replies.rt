@@ -4,14 +4,13 @@ use ld2410::{
     Ack, EnableConfigResult, FirmwareVersionResult, MacResult, ParametersResult, SpanResult,
 };
 use replay_io::line::{Row, Text, bytes, number, row};
-use std::io;
 
 // Puts `expect` of the awaited word, then the replies, for an acknowledgement whose payload is in `data`.
-pub fn all(out: &mut Text, taken: usize, ack: Ack, awaited: u16, data: &[u8]) -> io::Result<usize> {
-    let n = row(out, taken, span(ack.expect(awaited)), 3)?;
-    let n = row(out, n, enable_config(ack.enable_config(data)), 3)?;
-    let n = row(out, n, firmware_version(ack.firmware_version(data)), 4)?;
-    let n = mac(out, n, ack.mac(data))?;
+pub fn all(out: &mut Text, taken: usize, ack: Ack, awaited: u16, data: &[u8]) -> usize {
+    let n = row(out, taken, span(ack.expect(awaited)), 3);
+    let n = row(out, n, enable_config(ack.enable_config(data)), 3);
+    let n = row(out, n, firmware_version(ack.firmware_version(data)), 4);
+    let n = mac(out, n, ack.mac(data));
     parameters(out, n, ack.parameters(data))
 }
 
@@ -42,23 +41,23 @@ fn firmware_version(reply: FirmwareVersionResult) -> Row {
     }
 }
 
-fn mac(out: &mut Text, taken: usize, reply: MacResult) -> io::Result<usize> {
+fn mac(out: &mut Text, taken: usize, reply: MacResult) -> usize {
     let outcome = reply.outcome;
     let mac = reply.mac;
     let address = mac.0;
-    let n = number(out, taken, outcome.number() as u64)?;
+    let n = number(out, taken, outcome.number() as u64);
     bytes(out, n, &address)
 }
 
-fn parameters(out: &mut Text, taken: usize, reply: ParametersResult) -> io::Result<usize> {
+fn parameters(out: &mut Text, taken: usize, reply: ParametersResult) -> usize {
     let outcome = reply.outcome;
     let p = reply.parameters;
     let moving = p.moving_sensitivity;
     let stationary = p.stationary_sensitivity;
     let farthest = [p.max_gate, p.max_moving_gate, p.max_stationary_gate];
-    let n = number(out, taken, outcome.number() as u64)?;
-    let n = bytes(out, n, &farthest)?;
-    let n = gates(out, n, moving, stationary)?;
-    let n = number(out, n, p.no_one_secs as u64)?;
+    let n = number(out, taken, outcome.number() as u64);
+    let n = bytes(out, n, &farthest);
+    let n = gates(out, n, moving, stationary);
+    let n = number(out, n, p.no_one_secs as u64);
     number(out, n, p.gates() as u64)
 }

@@ -7,17 +7,10 @@ use replay_io::argument::u8_at;
 use replay_io::line;
 use replay_io::line::{Row, Text};
 use replay_io::script::call_size;
-use std::io;
 use wire::min;
 
 // Makes the calls of a script, up to one that is cut short or has no meaning.
-pub fn run(
-    out: &mut Text,
-    taken: usize,
-    op: u8,
-    parser: Parser,
-    script: &[u8],
-) -> io::Result<usize> {
+pub fn run(out: &mut Text, taken: usize, op: u8, parser: Parser, script: &[u8]) -> usize {
     let mut now = parser;
     let mut n = taken;
     let mut at = 0;
@@ -28,7 +21,7 @@ pub fn run(
         }
         let end = at + size;
         let fed = call(op, now, &script[at..end]);
-        n = answered(out, n, op, fed)?;
+        n = answered(out, n, op, fed);
         now = fed.parser;
         at = end;
     }
@@ -79,25 +72,25 @@ fn fed_slice(op: u8, parser: Parser, bytes: &[u8]) -> FedSlice {
 }
 
 // Puts the line of a call: its answer, then the bytes of an acknowledgement's payload in the parser's buffer.
-fn answered(out: &mut Text, taken: usize, op: u8, fed: FedSlice) -> io::Result<usize> {
+fn answered(out: &mut Text, taken: usize, op: u8, fed: FedSlice) -> usize {
     let parser = fed.parser;
     let buf = parser.buf;
     let answer = fed.answer;
-    let n = line::op(out, taken, op)?;
-    let n = line::number(out, n, answer.count as u64)?;
-    let n = framed(out, n, answer.frame, &buf)?;
+    let n = line::op(out, taken, op);
+    let n = line::number(out, n, answer.count as u64);
+    let n = framed(out, n, answer.frame, &buf);
     line::end(out, n)
 }
 
 // Puts a frame and the bytes of its payload.
-fn framed(out: &mut Text, taken: usize, frame: Frame, buf: &[u8; MAX_FRAME]) -> io::Result<usize> {
+fn framed(out: &mut Text, taken: usize, frame: Frame, buf: &[u8; MAX_FRAME]) -> usize {
     let ack = frame.ack;
-    let n = values::frame(out, taken, frame)?;
+    let n = values::frame(out, taken, frame);
     payload(out, n, ack.payload, buf)
 }
 
 // Puts the bytes of a payload, as far as they lie in the buffer.
-fn payload(out: &mut Text, taken: usize, span: Span, buf: &[u8; MAX_FRAME]) -> io::Result<usize> {
+fn payload(out: &mut Text, taken: usize, span: Span, buf: &[u8; MAX_FRAME]) -> usize {
     let all: &[u8] = buf;
     let start = min(span.start, MAX_FRAME);
     let end = start + min(span.len, MAX_FRAME - start);
@@ -105,9 +98,9 @@ fn payload(out: &mut Text, taken: usize, span: Span, buf: &[u8; MAX_FRAME]) -> i
 }
 
 // Puts the closing line.
-fn closing(out: &mut Text, taken: usize, op: u8, parser: Parser) -> io::Result<usize> {
-    let n = line::op(out, taken, op)?;
-    let n = line::row(out, n, counters(parser), 5)?;
+fn closing(out: &mut Text, taken: usize, op: u8, parser: Parser) -> usize {
+    let n = line::op(out, taken, op);
+    let n = line::row(out, n, counters(parser), 5);
     line::end(out, n)
 }
 

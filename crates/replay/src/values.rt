@@ -3,7 +3,6 @@ use ld2410::{
     Ack, Engineering, Frame, FrameKind, GATES, MaybeTarget, MaybeU8, Report, TargetState,
 };
 use replay_io::line::{Row, Text, bytes, number, row};
-use std::io;
 
 // Returns a target state: its byte, then its accessors.
 pub fn target_state(state: TargetState) -> Row {
@@ -19,11 +18,11 @@ pub fn target_state(state: TargetState) -> Row {
 }
 
 // Puts a report: its fields, with those of its engineering block, then its accessors and the block's.
-pub fn report(out: &mut Text, taken: usize, report: Report) -> io::Result<usize> {
+pub fn report(out: &mut Text, taken: usize, report: Report) -> usize {
     let block = report.engineering;
-    let n = row(out, taken, basic(report), 7)?;
-    let n = engineering(out, n, block)?;
-    let n = row(out, n, accessors(report), 7)?;
+    let n = row(out, taken, basic(report), 7);
+    let n = engineering(out, n, block);
+    let n = row(out, n, accessors(report), 7);
     row(out, n, engineering_accessors(block), 7)
 }
 
@@ -60,25 +59,20 @@ fn target(target: MaybeTarget) -> [u64; 3] {
 }
 
 // Puts the fields of an engineering block.
-fn engineering(out: &mut Text, taken: usize, block: Engineering) -> io::Result<usize> {
+fn engineering(out: &mut Text, taken: usize, block: Engineering) -> usize {
     let moving = block.moving_energy;
     let stationary = block.stationary_energy;
     let extra = block.extra;
-    let n = number(out, taken, block.moving_gates as u64)?;
-    let n = number(out, n, block.stationary_gates as u64)?;
-    let n = gates(out, n, moving, stationary)?;
-    let n = bytes(out, n, &extra)?;
+    let n = number(out, taken, block.moving_gates as u64);
+    let n = number(out, n, block.stationary_gates as u64);
+    let n = gates(out, n, moving, stationary);
+    let n = bytes(out, n, &extra);
     number(out, n, block.extra_len as u64)
 }
 
 // Puts a byte for each gate, of moving and of stationary targets.
-pub fn gates(
-    out: &mut Text,
-    taken: usize,
-    moving: [u8; GATES],
-    stationary: [u8; GATES],
-) -> io::Result<usize> {
-    let n = bytes(out, taken, &moving)?;
+pub fn gates(out: &mut Text, taken: usize, moving: [u8; GATES], stationary: [u8; GATES]) -> usize {
+    let n = bytes(out, taken, &moving);
     bytes(out, n, &stationary)
 }
 
@@ -123,10 +117,10 @@ pub fn ack(ack: Ack) -> Row {
 }
 
 // Puts a frame: its kind, its report and its acknowledgement.
-pub fn frame(out: &mut Text, taken: usize, frame: Frame) -> io::Result<usize> {
+pub fn frame(out: &mut Text, taken: usize, frame: Frame) -> usize {
     let kind = frame.kind;
-    let n = number(out, taken, kind_number(kind))?;
-    let n = report(out, n, frame.report)?;
+    let n = number(out, taken, kind_number(kind));
+    let n = report(out, n, frame.report);
     row(out, n, ack(frame.ack), 5)
 }
 

@@ -6,7 +6,6 @@ use ld2410::{
 use replay_io::argument::{flag_at, rest, u8_at, u16_at};
 use replay_io::commands::{MaybeCommand, command_in};
 use replay_io::line::{Row, Text, bytes, row};
-use std::io;
 use wire::{copy_prefix, gate_array, min};
 
 // The longest buffer.
@@ -37,7 +36,7 @@ pub fn value_in(argument: &[u8]) -> &[u8] {
 }
 
 // Writes into a buffer as long as the argument says, and puts the answer and the buffer.
-pub fn write(out: &mut Text, taken: usize, op: u8, argument: &[u8]) -> io::Result<usize> {
+pub fn write(out: &mut Text, taken: usize, op: u8, argument: &[u8]) -> usize {
     let fill = u8_at(argument, 2);
     let mut buffer: [u8; LONGEST] = [fill; LONGEST];
     write_in_front(out, taken, op, argument, &mut buffer)
@@ -50,21 +49,15 @@ fn write_in_front(
     op: u8,
     argument: &[u8],
     buffer: &mut [u8],
-) -> io::Result<usize> {
+) -> usize {
     let end = min(u16_at(argument, 0) as usize, buffer.len());
     write_to(out, taken, op, value_in(argument), &mut buffer[0..end])
 }
 
 // Writes into the buffer, and puts the answer and the buffer.
-fn write_to(
-    out: &mut Text,
-    taken: usize,
-    op: u8,
-    value: &[u8],
-    buffer: &mut [u8],
-) -> io::Result<usize> {
+fn write_to(out: &mut Text, taken: usize, op: u8, value: &[u8], buffer: &mut [u8]) -> usize {
     let answer = written(op, value, buffer);
-    let n = row(out, taken, answer, 2)?;
+    let n = row(out, taken, answer, 2);
     bytes(out, n, buffer)
 }
 

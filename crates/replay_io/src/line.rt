@@ -1,14 +1,14 @@
 // The lines of the answers. They gather in a buffer, which goes to its writer whenever it is full.
 //
-// Each function takes the buffer and how many of its bytes are taken, and returns how many are taken then, or why the
-// writer did not take a full buffer. No contract can name what is printed: each says what the buffer holds then, and
-// that after a full buffer a byte is put in front.
-ghost use Rattle.std.specs.Prelude.{◌≡◌, [], ◌∷◌, nat_abs, take, IfOk};
+// Each function takes the buffer and how many of its bytes are taken, and returns how many are taken then. No contract
+// can name what is printed: each says what the buffer holds then, and that after a full buffer a byte is put in front.
+// What a writer refuses is lost, and the answers go on.
+ghost use Rattle.std.specs.Prelude.{◌≡◌, [], ◌∷◌, nat_abs, take};
 ghost use Rattle.replay_io.specs.Line.{gathered, place, put_byte, put_all};
 ghost use Rattle.replay_io.specs.Line.{decimal_of, numbers_of, signed_text, none_text, line_feed, closing};
 
 use crate::input::Found;
-use std::io::{Result, Stdout, Write};
+use std::io::{Stdout, Write};
 use wire::min;
 
 // Bytes of the buffer.
@@ -29,46 +29,46 @@ pub type Row = [u64; 7];
 
 // Returns where the next byte goes: after those that are taken, or in front once a full buffer is written.
 #[tactic(auto, using(crate::proofs::Puts::place_after, crate::proofs::Puts::place_front))]
-fn room<W: Write>(out: &mut Buffer<W>, taken: usize) -> Result<usize>
-    ensures found { IfOk result (λ at. at ≡ place taken) }
+fn room<W: Write>(out: &mut Buffer<W>, taken: usize) -> usize
+    ensures found { result ≡ place taken }
     ensures kept { out.new.bytes ≡ out.old.bytes }
 {
     if taken < SIZE {
-        return Ok(taken);
+        return taken;
     }
-    out.to.write_all(&out.bytes)?;
-    Ok(0)
+    let _ = out.to.write_all(&out.bytes);
+    0
 }
 
 // Puts a byte.
 #[tactic(auto, using(crate::proofs::Puts::place_below), unfolding(crate::specs::Line::put_byte))]
-fn put<W: Write>(out: &mut Buffer<W>, taken: usize, byte: u8) -> Result<usize>
-    ensures put { IfOk result (λ n. gathered out.new.bytes n
-        ≡ put_byte (gathered out.old.bytes taken) byte) }
+fn put<W: Write>(out: &mut Buffer<W>, taken: usize, byte: u8) -> usize
+    ensures put { gathered out.new.bytes result
+        ≡ put_byte (gathered out.old.bytes taken) byte }
 {
-    let at = room(out, taken)?;
+    let at = room(out, taken);
     out.bytes[at] = byte;
-    Ok(at + 1)
+    at + 1
 }
 
 // Puts bytes as they are.
-fn literal<W: Write>(out: &mut Buffer<W>, taken: usize, bytes: &[u8]) -> Result<usize>
-    ensures put { IfOk result (λ n. gathered out.new.bytes n
-        ≡ put_all (gathered out.old.bytes taken) bytes.now) }
+fn literal<W: Write>(out: &mut Buffer<W>, taken: usize, bytes: &[u8]) -> usize
+    ensures put { gathered out.new.bytes result
+        ≡ put_all (gathered out.old.bytes taken) bytes.now }
 {
     let mut n = taken;
     let mut i = 0;
     while i < bytes.len() {
-        n = put(out, n, bytes[i])?;
+        n = put(out, n, bytes[i]);
         i += 1;
     }
-    Ok(n)
+    n
 }
 
 // Puts a number in decimal.
-fn decimal<W: Write>(out: &mut Buffer<W>, taken: usize, value: u64) -> Result<usize>
-    ensures put { IfOk result (λ n. gathered out.new.bytes n
-        ≡ put_all (gathered out.old.bytes taken) (decimal_of value)) }
+fn decimal<W: Write>(out: &mut Buffer<W>, taken: usize, value: u64) -> usize
+    ensures put { gathered out.new.bytes result
+        ≡ put_all (gathered out.old.bytes taken) (decimal_of value) }
 {
     if value < 10 {
         return put(out, taken, b'0' + value as u8);
@@ -79,19 +79,19 @@ fn decimal<W: Write>(out: &mut Buffer<W>, taken: usize, value: u64) -> Result<us
 }
 
 // Puts the op that a line begins with.
-pub fn op<W: Write>(out: &mut Buffer<W>, taken: usize, op: u8) -> Result<usize>
-    ensures put { IfOk result (λ n. gathered out.new.bytes n
-        ≡ put_all (gathered out.old.bytes taken) (decimal_of op)) }
+pub fn op<W: Write>(out: &mut Buffer<W>, taken: usize, op: u8) -> usize
+    ensures put { gathered out.new.bytes result
+        ≡ put_all (gathered out.old.bytes taken) (decimal_of op) }
 {
     decimal(out, taken, op as u64)
 }
 
 // Puts a number after a space.
-pub fn number<W: Write>(out: &mut Buffer<W>, taken: usize, value: u64) -> Result<usize>
-    ensures put { IfOk result (λ n. gathered out.new.bytes n
-        ≡ put_all (gathered out.old.bytes taken) (numbers_of (value ∷ []))) }
+pub fn number<W: Write>(out: &mut Buffer<W>, taken: usize, value: u64) -> usize
+    ensures put { gathered out.new.bytes result
+        ≡ put_all (gathered out.old.bytes taken) (numbers_of (value ∷ [])) }
 {
-    let n = put(out, taken, b' ')?;
+    let n = put(out, taken, b' ');
     decimal(out, n, value)
 }
 
@@ -106,30 +106,30 @@ fn magnitude(value: i16) -> u64
 }
 
 // Puts a number after a space, with a minus sign if it is below 0.
-pub fn signed<W: Write>(out: &mut Buffer<W>, taken: usize, value: i16) -> Result<usize>
-    ensures put { IfOk result (λ n. gathered out.new.bytes n
-        ≡ put_all (gathered out.old.bytes taken) (signed_text value)) }
+pub fn signed<W: Write>(out: &mut Buffer<W>, taken: usize, value: i16) -> usize
+    ensures put { gathered out.new.bytes result
+        ≡ put_all (gathered out.old.bytes taken) (signed_text value) }
 {
     if value < 0 {
-        let n = literal(out, taken, b" -")?;
+        let n = literal(out, taken, b" -");
         return decimal(out, n, magnitude(value));
     }
     number(out, taken, magnitude(value))
 }
 
 // Puts the first `count` numbers of a row; all of them if it has no more.
-pub fn row<W: Write>(out: &mut Buffer<W>, taken: usize, values: Row, count: usize) -> Result<usize>
-    ensures put { IfOk result (λ n. gathered out.new.bytes n
-        ≡ put_all (gathered out.old.bytes taken) (numbers_of (take count values))) }
+pub fn row<W: Write>(out: &mut Buffer<W>, taken: usize, values: Row, count: usize) -> usize
+    ensures put { gathered out.new.bytes result
+        ≡ put_all (gathered out.old.bytes taken) (numbers_of (take count values)) }
 {
     let end = min(count, 7);
     let mut n = taken;
     let mut i = 0;
     while i < end {
-        n = number(out, n, values[i])?;
+        n = number(out, n, values[i]);
         i += 1;
     }
-    Ok(n)
+    n
 }
 
 // Returns a byte as a number of a line.
@@ -140,65 +140,65 @@ fn wide(byte: u8) -> u64
 }
 
 // Puts each of the bytes as a number.
-pub fn bytes<W: Write>(out: &mut Buffer<W>, taken: usize, values: &[u8]) -> Result<usize>
-    ensures put { IfOk result (λ n. gathered out.new.bytes n
-        ≡ put_all (gathered out.old.bytes taken) (numbers_of values.now)) }
+pub fn bytes<W: Write>(out: &mut Buffer<W>, taken: usize, values: &[u8]) -> usize
+    ensures put { gathered out.new.bytes result
+        ≡ put_all (gathered out.old.bytes taken) (numbers_of values.now) }
 {
     let mut n = taken;
     let mut i = 0;
     while i < values.len() {
-        n = number(out, n, wide(values[i]))?;
+        n = number(out, n, wide(values[i]));
         i += 1;
     }
-    Ok(n)
+    n
 }
 
 // Says that the case has no answer.
-pub fn none<W: Write>(out: &mut Buffer<W>, taken: usize) -> Result<usize>
-    ensures put { IfOk result (λ n. gathered out.new.bytes n
-        ≡ put_all (gathered out.old.bytes taken) none_text) }
+pub fn none<W: Write>(out: &mut Buffer<W>, taken: usize) -> usize
+    ensures put { gathered out.new.bytes result
+        ≡ put_all (gathered out.old.bytes taken) none_text }
 {
     literal(out, taken, b" none")
 }
 
 // Ends a line.
 #[tactic(auto, unfolding(crate::specs::Line::put_all))]
-pub fn end<W: Write>(out: &mut Buffer<W>, taken: usize) -> Result<usize>
-    ensures put { IfOk result (λ n. gathered out.new.bytes n
-        ≡ put_all (gathered out.old.bytes taken) line_feed) }
+pub fn end<W: Write>(out: &mut Buffer<W>, taken: usize) -> usize
+    ensures put { gathered out.new.bytes result
+        ≡ put_all (gathered out.old.bytes taken) line_feed }
 {
     put(out, taken, b'\n')
 }
 
 // Says why the answers end before the input does, if they do, and writes what the buffer then has.
-pub fn finish<W: Write>(out: &mut Buffer<W>, taken: usize, found: Found) -> Result<usize>
-    ensures put { IfOk result (λ n. gathered out.new.bytes n
-        ≡ put_all (gathered out.old.bytes taken) (closing found)) }
+pub fn finish<W: Write>(out: &mut Buffer<W>, taken: usize, found: Found) -> usize
+    ensures put { gathered out.new.bytes result
+        ≡ put_all (gathered out.old.bytes taken) (closing found) }
 {
-    let n = close(out, taken, found)?;
-    flush(out, n)?;
-    Ok(n)
+    let n = close(out, taken, found);
+    flush(out, n);
+    n
 }
 
 // Puts the line that ends the answers, if there is one.
 #[tactic(auto, using(crate::proofs::Puts::put_nil))]
-fn close<W: Write>(out: &mut Buffer<W>, taken: usize, found: Found) -> Result<usize>
-    ensures put { IfOk result (λ n. gathered out.new.bytes n
-        ≡ put_all (gathered out.old.bytes taken) (closing found)) }
+fn close<W: Write>(out: &mut Buffer<W>, taken: usize, found: Found) -> usize
+    ensures put { gathered out.new.bytes result
+        ≡ put_all (gathered out.old.bytes taken) (closing found) }
 {
     match found {
-        Found::Case => Ok(taken),
+        Found::Case => taken,
         Found::Long => literal(out, taken, b"long\n"),
         Found::Short => literal(out, taken, b"short\n"),
-        Found::End => Ok(taken),
+        Found::End => taken,
     }
 }
 
 // Writes what is taken.
-fn flush<W: Write>(out: &mut Buffer<W>, taken: usize) -> Result<()>
+fn flush<W: Write>(out: &mut Buffer<W>, taken: usize)
     ensures kept { out.new.bytes ≡ out.old.bytes }
 {
     let bytes: &[u8] = &out.bytes;
     let n = min(taken, bytes.len());
-    out.to.write_all(&bytes[0..n])
+    let _ = out.to.write_all(&bytes[0..n]);
 }

@@ -5,7 +5,6 @@ use ld2450_parser::{WriteResult, read_targets, write_targets};
 use replay_io::argument::{rest, u8_at, u16_at};
 use replay_io::line;
 use replay_io::line::{Row, Text};
-use std::io;
 use wire::min;
 
 // The longest buffer that is written into.
@@ -24,7 +23,7 @@ pub fn has_answer(op: u8, argument: &[u8]) -> bool {
 }
 
 // Puts what follows the op in its line.
-pub fn fields(out: &mut Text, taken: usize, op: u8, argument: &[u8]) -> io::Result<usize> {
+pub fn fields(out: &mut Text, taken: usize, op: u8, argument: &[u8]) -> usize {
     match op {
         30 => read(out, taken, argument),
         _ => write(out, taken, argument),
@@ -32,36 +31,31 @@ pub fn fields(out: &mut Text, taken: usize, op: u8, argument: &[u8]) -> io::Resu
 }
 
 // Answers op 30, on any bytes.
-fn read(out: &mut Text, taken: usize, bytes: &[u8]) -> io::Result<usize> {
+fn read(out: &mut Text, taken: usize, bytes: &[u8]) -> usize {
     let read = read_targets(bytes);
     let outcome = read.outcome;
     let targets = read.targets;
-    let n = line::number(out, taken, outcome.number() as u64)?;
+    let n = line::number(out, taken, outcome.number() as u64);
     targets::put(out, n, targets)
 }
 
 // Answers op 31: writes into a buffer as long as the argument says, and puts the answer and the buffer.
-fn write(out: &mut Text, taken: usize, argument: &[u8]) -> io::Result<usize> {
+fn write(out: &mut Text, taken: usize, argument: &[u8]) -> usize {
     let fill = u8_at(argument, 2);
     let mut buffer: [u8; LONGEST] = [fill; LONGEST];
     write_in_front(out, taken, argument, &mut buffer)
 }
 
 // Writes into the front of a buffer, as many bytes of it as the argument says.
-fn write_in_front(
-    out: &mut Text,
-    taken: usize,
-    argument: &[u8],
-    buffer: &mut [u8],
-) -> io::Result<usize> {
+fn write_in_front(out: &mut Text, taken: usize, argument: &[u8], buffer: &mut [u8]) -> usize {
     let end = min(u16_at(argument, 0) as usize, buffer.len());
     write_to(out, taken, rest(argument, VALUE_AT), &mut buffer[0..end])
 }
 
 // Writes the targets into the buffer, and puts the answer and the buffer.
-fn write_to(out: &mut Text, taken: usize, value: &[u8], buffer: &mut [u8]) -> io::Result<usize> {
+fn write_to(out: &mut Text, taken: usize, value: &[u8], buffer: &mut [u8]) -> usize {
     let answer = write_targets(buffer, targets_in(value));
-    let n = line::row(out, taken, returned(answer), 2)?;
+    let n = line::row(out, taken, returned(answer), 2);
     line::bytes(out, n, buffer)
 }
 

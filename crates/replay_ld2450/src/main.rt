@@ -11,27 +11,26 @@ use replay_io::argument::{rest, u8_at};
 use replay_io::input::{HEAD, next_case, nothing_read};
 use replay_io::line::Text;
 use replay_io::{input, line};
-use std::io;
 use std::io::Stdin;
 
 // Puts the answer to a case: the lines of a script, or one line.
-fn answer(out: &mut Text, taken: usize, case: &[u8]) -> io::Result<usize> {
+fn answer(out: &mut Text, taken: usize, case: &[u8]) -> usize {
     let op = u8_at(case, 0);
     let argument = rest(case, HEAD);
     if op == 32 {
         return scripts::run(out, taken, op, argument);
     }
-    let n = line::op(out, taken, op)?;
+    let n = line::op(out, taken, op);
     let n = if frames::has_answer(op, argument) {
         frames::fields(out, n, op, argument)
     } else {
         line::none(out, n)
-    }?;
+    };
     line::end(out, n)
 }
 
 // Answers every case. The turns are counted down, from a number that no run uses up, so that the loop ends.
-fn run(from: &mut Stdin, input: &mut [u8], out: &mut Text) -> io::Result<()> {
+fn run(from: &mut Stdin, input: &mut [u8], out: &mut Text) {
     let mut case = nothing_read();
     let mut taken = 0;
     let mut turns = u64::MAX;
@@ -41,20 +40,19 @@ fn run(from: &mut Stdin, input: &mut [u8], out: &mut Text) -> io::Result<()> {
         let end = case.end;
         let found = case.found;
         if !case.is_case() {
-            line::finish(out, taken, found)?;
-            return Ok(());
+            line::finish(out, taken, found);
+            return;
         }
-        taken = answer(out, taken, &input[start..end])?;
+        taken = answer(out, taken, &input[start..end]);
         turns -= 1;
     }
-    Ok(())
 }
 
-fn main(rt: HostRuntime) -> io::Result<()> {
+fn main(rt: HostRuntime) {
     let mut input = [0u8; input::SIZE];
     let mut out = Text {
         bytes: [0; line::SIZE],
         to: rt.stdout(),
     };
-    run(&mut rt.stdin(), &mut input, &mut out)
+    run(&mut rt.stdin(), &mut input, &mut out);
 }

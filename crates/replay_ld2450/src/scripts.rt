@@ -6,10 +6,9 @@ use replay_io::argument::{rest, u8_at};
 use replay_io::line;
 use replay_io::line::{Row, Text};
 use replay_io::script::call_size;
-use std::io;
 
 // Makes the calls of a script, up to one that is cut short or has no meaning.
-pub fn run(out: &mut Text, taken: usize, op: u8, script: &[u8]) -> io::Result<usize> {
+pub fn run(out: &mut Text, taken: usize, op: u8, script: &[u8]) -> usize {
     let mut parser = Parser::new();
     let mut n = taken;
     let mut at = 0;
@@ -20,7 +19,7 @@ pub fn run(out: &mut Text, taken: usize, op: u8, script: &[u8]) -> io::Result<us
         }
         let end = at + size;
         let fed = call(parser, &script[at..end]);
-        n = answered(out, n, op, fed.answer)?;
+        n = answered(out, n, op, fed.answer);
         parser = fed.parser;
         at = end;
     }
@@ -61,20 +60,20 @@ fn cleared(parser: Parser) -> FedSlice {
 }
 
 // Puts the line of a call: the bytes taken, whether there is a frame, and its targets.
-fn answered(out: &mut Text, taken: usize, op: u8, call: Taken) -> io::Result<usize> {
+fn answered(out: &mut Text, taken: usize, op: u8, call: Taken) -> usize {
     let frame = call.frame;
     let targets = frame.targets;
-    let n = line::op(out, taken, op)?;
-    let n = line::number(out, n, call.count as u64)?;
-    let n = line::number(out, n, frame.there as u64)?;
-    let n = targets::put(out, n, targets)?;
+    let n = line::op(out, taken, op);
+    let n = line::number(out, n, call.count as u64);
+    let n = line::number(out, n, frame.there as u64);
+    let n = targets::put(out, n, targets);
     line::end(out, n)
 }
 
 // Puts the closing line.
-fn closing(out: &mut Text, taken: usize, op: u8, parser: Parser) -> io::Result<usize> {
-    let n = line::op(out, taken, op)?;
-    let n = line::row(out, n, counters(parser), 4)?;
+fn closing(out: &mut Text, taken: usize, op: u8, parser: Parser) -> usize {
+    let n = line::op(out, taken, op);
+    let n = line::row(out, n, counters(parser), 4);
     line::end(out, n)
 }
 

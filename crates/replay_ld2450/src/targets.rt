@@ -3,7 +3,6 @@ use ld2450_parser::{TARGETS, Target};
 use replay_io::argument::{flag_at, rest, u16_at};
 use replay_io::line;
 use replay_io::line::Text;
-use std::io;
 
 // Bytes of a target's value: whether it is present, then four numbers of two bytes.
 const ENTRY_LEN: usize = 9;
@@ -12,18 +11,18 @@ const ENTRY_LEN: usize = 9;
 pub const VALUE_LEN: usize = TARGETS * ENTRY_LEN;
 
 // Puts three targets.
-pub fn put(out: &mut Text, taken: usize, targets: [Target; TARGETS]) -> io::Result<usize> {
-    let n = target(out, taken, targets[0])?;
-    let n = target(out, n, targets[1])?;
+pub fn put(out: &mut Text, taken: usize, targets: [Target; TARGETS]) -> usize {
+    let n = target(out, taken, targets[0]);
+    let n = target(out, n, targets[1]);
     target(out, n, targets[2])
 }
 
 // Puts one target: whether it is present, then its fields.
-fn target(out: &mut Text, taken: usize, t: Target) -> io::Result<usize> {
-    let n = line::number(out, taken, t.present as u64)?;
-    let n = line::signed(out, n, t.x)?;
-    let n = line::signed(out, n, t.y)?;
-    let n = line::signed(out, n, t.speed)?;
+fn target(out: &mut Text, taken: usize, t: Target) -> usize {
+    let n = line::number(out, taken, t.present as u64);
+    let n = line::signed(out, n, t.x);
+    let n = line::signed(out, n, t.y);
+    let n = line::signed(out, n, t.speed);
     line::number(out, n, t.resolution as u64)
 }
 

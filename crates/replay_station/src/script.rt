@@ -6,7 +6,6 @@ use replay_io::argument::{rest, u8_at, u16_at};
 use replay_io::commands::{MaybeCommand, command_in};
 use replay_io::line;
 use replay_io::line::{Row, Text};
-use std::io;
 use wire::min;
 
 // The longest buffer that a command is sent into.
@@ -20,19 +19,19 @@ struct Told {
 }
 
 // Makes the events of a script, up to one that is cut short or has no meaning.
-pub fn run(out: &mut Text, taken: usize, op: u8, script: &[u8]) -> io::Result<usize> {
+pub fn run(out: &mut Text, taken: usize, op: u8, script: &[u8]) -> usize {
     let mut session = Session::new();
     let mut n = taken;
     let mut at = 0;
     loop {
         let size = event_size(&script[at..]);
         if size == 0 {
-            return Ok(n);
+            return n;
         }
         let end = at + size;
-        let begun = line::op(out, n, op)?;
-        let told = event(out, begun, session, &script[at..end])?;
-        n = ended(out, told)?;
+        let begun = line::op(out, n, op);
+        let told = event(out, begun, session, &script[at..end]);
+        n = ended(out, told);
         let after = told.session;
         session = after;
         at = end;
@@ -67,19 +66,19 @@ fn send_size(six: &[u8]) -> usize {
 }
 
 // Makes the event that these bytes are, and puts its answer.
-fn event(out: &mut Text, taken: usize, session: Session, bytes: &[u8]) -> io::Result<Told> {
+fn event(out: &mut Text, taken: usize, session: Session, bytes: &[u8]) -> Told {
     match u8_at(bytes, 0) {
         0 => send(out, taken, session, bytes),
         1 => receive(out, taken, session, rest(bytes, 3)),
-        _ => Ok(Told {
+        _ => Told {
             session: session.give_up(),
             taken,
-        }),
+        },
     }
 }
 
 // Sends the command into a buffer as long as the event says.
-fn send(out: &mut Text, taken: usize, session: Session, bytes: &[u8]) -> io::Result<Told> {
+fn send(out: &mut Text, taken: usize, session: Session, bytes: &[u8]) -> Told {
     let fill = u8_at(bytes, 8);
     let mut buffer: [u8; LONGEST] = [fill; LONGEST];
     send_into(out, taken, session, bytes, &mut buffer)
@@ -92,19 +91,19 @@ fn send_into(
     session: Session,
     bytes: &[u8],
     buffer: &mut [u8],
-) -> io::Result<Told> {
+) -> Told {
     let end = min(u8_at(bytes, 7) as usize, buffer.len());
     let MaybeCommand::Some(command) = command_in(rest(bytes, 1)) else {
-        return Ok(Told { session, taken });
+        return Told { session, taken };
     };
     let sent = session.send(command, &mut buffer[0..end]);
     let answer = sent.answer;
     let after = sent.session;
-    let n = line::row(out, taken, returned(answer), 2)?;
-    Ok(Told {
+    let n = line::row(out, taken, returned(answer), 2);
+    Told {
         session: after,
-        taken: line::bytes(out, n, &buffer[0..end])?,
-    })
+        taken: line::bytes(out, n, &buffer[0..end]),
+    }
 }
 
 // Returns the refusal, and the bytes written or needed.
@@ -116,15 +115,15 @@ fn returned(answer: SendResult) -> Row {
 }
 
 // Hands over the frame that the bytes are, and puts whether it ended the wait, and whether `ok` was on.
-fn receive(out: &mut Text, taken: usize, session: Session, bytes: &[u8]) -> io::Result<Told> {
+fn receive(out: &mut Text, taken: usize, session: Session, bytes: &[u8]) -> Told {
     let read = Frame::parse(bytes);
     let received = session.receive(read.frame);
     let answer = received.answer;
     let after = received.session;
-    Ok(Told {
+    Told {
         session: after,
-        taken: line::row(out, taken, ended_by(answer), 2)?,
-    })
+        taken: line::row(out, taken, ended_by(answer), 2),
+    }
 }
 
 fn ended_by(answer: ReceiveResult) -> Row {
@@ -135,10 +134,10 @@ fn ended_by(answer: ReceiveResult) -> Row {
 }
 
 // Ends the line of an event: the session's state, and the word that it awaits.
-fn ended(out: &mut Text, told: Told) -> io::Result<usize> {
+fn ended(out: &mut Text, told: Told) -> usize {
     let session = told.session;
-    let n = line::number(out, told.taken, state_of(session))?;
-    let n = line::number(out, n, word_of(session))?;
+    let n = line::number(out, told.taken, state_of(session));
+    let n = line::number(out, n, word_of(session));
     line::end(out, n)
 }
 

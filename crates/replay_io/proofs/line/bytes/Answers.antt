@@ -10,7 +10,7 @@ loop-i-init g c = (search rules, numbers_nil _ c.args.values.now)
 pub loop-i-preserved : goal.loop-i-preserved
 loop-i-preserved g c = (
   search rules,
-  numbers_next _ _ _ _ c.loop-i.i c.loop-i.invariant.1 _ c.wide.ensures.same c.loop-i-test.true c.in_ok-n.ensures.put,
+  numbers_next _ _ _ _ c.loop-i.i c.loop-i.invariant.1 _ c.wide.ensures.same c.loop-i-test.true c.number-n.ensures.put,
 )
 
 pub returns : goal.returns

@@ -10,7 +10,7 @@ loop-i-init g c = (search rules, put_nil _)
 
 pub loop-i-preserved : goal.loop-i-preserved
 loop-i-preserved g c =
-    (search rules, put_next _ _ _ _ c.loop-i.i c.loop-i.invariant.1 c.loop-i-test.true c.in_ok-n.ensures.put)
+    (search rules, put_next _ _ _ _ c.loop-i.i c.loop-i.invariant.1 c.loop-i-test.true c.put-n.ensures.put)
 
 pub returns : goal.returns
 returns g c = record {

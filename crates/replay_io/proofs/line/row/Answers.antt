@@ -12,7 +12,7 @@ loop-i-init g c = (search rules, c.min-end.ensures.chosen, search rules, numbers
 pub loop-i-preserved : goal.loop-i-preserved
 loop-i-preserved g c =
     let inv = c.loop-i.invariant in
-    let next = numbers_next _ _ _ _ c.loop-i.i inv.3 _ refl (search rules) c.in_ok-n.ensures.put in
+    let next = numbers_next _ _ _ _ c.loop-i.i inv.3 _ refl (search rules) c.number-n.ensures.put in
     (search rules, inv.1, inv.2, next)
 
 pub returns : goal.returns

@@ -1,5 +1,4 @@
 -- `replay_io::line::signed` meets its contract: the number that the machine reads from the parameter's bits is it.
-use Rattle.std.proofs.lemmas.Result.{IfOk-weaker}
 use mir.Syntax.{w16}
 use mir.ValLaws.{to_z-of_z}
 use Rattle.replay_io.proofs.Signs.{signed_minus, signed_plus}
@@ -11,8 +10,7 @@ returns-then-value-lt0 g c =
     let below = rw back at c.if-value-lt0.true in
     let far = rw back at c.magnitude.ensures.told in
     record {
-      put = IfOk-weaker c.decimal.result _ _
-          (λ n h. signed_minus _ _ _ _ _ below far c.in_ok-n.ensures.put h) c.decimal.ensures.put;
+      put = signed_minus _ _ _ _ _ below far c.literal-n.ensures.put c.decimal.ensures.put;
     }
 
 pub returns : goal.returns
@@ -21,5 +19,5 @@ returns g c =
     let above = rw back at c.if-value-lt0.false in
     let far = rw back at c.magnitude-2.ensures.told in
     record {
-      put = IfOk-weaker c.number.result _ _ (λ n h. signed_plus _ _ _ _ above far h) c.number.ensures.put;
+      put = signed_plus _ _ _ _ above far c.number.ensures.put;
     }
