@@ -3,15 +3,14 @@ use mathlib.Core.Path.{◌≡◌, sym, ap, ◌∙◌}
 use mathlib.Core.List.{List, [], ◌++◌}
 use Prim.Native.Nat.{ℕ}
 use lib.Dec.{ltb}
-use lib.IntN.{ℤ}
 use lib.ListN.{length, take}
+use Rattle.std.specs.Prelude.{Result}
 use Rattle.wire.specs.Bytes.{Bytes}
 use Rattle.wire.proofs.Bytes.{bytes_append}
-use Rattle.io.specs.Counts.{clamp_len}
 use Rattle.engine.specs.Calls.{feeds}
 use Rattle.parser.specs.Claims.{left}
 use Rattle.parser.specs.declared.Parser.{Parser}
-use Rattle.counting.specs.Reached.{Reached, turn_of, Turned}
+use Rattle.counting.specs.Reached.{Reached, read_len, turn_of, Turned}
 use Rattle.counting.specs.declared.Turn.{Turn}
 use Rattle.counting.proofs.Appended.{left_append}
 
@@ -26,16 +25,16 @@ reached_on p q r h k = record {
 }
 
 -- A read of n bytes feeds the first n bytes of the buffer.
-pub turned_by : (p q : Parser) (n : ℕ) (buf : List ℕ) (got : ℤ) → n ≡ clamp_len got (length buf)
+pub turned_by : {E : Type 0} (p q : Parser) (n : ℕ) (buf : List ℕ) (got : Result ℕ E) → n ≡ read_len got (length buf)
     → q ≡ left p (feeds (take n buf)) → Bytes (take n buf)
     → (◌≡◌ {A = Turn} (record { parser = q; more = ltb 0 n }) (turn_of p buf got))
-    × Bytes (take (clamp_len got (length buf)) buf)
+    × Bytes (take (read_len got (length buf)) buf)
 turned_by p q n buf got e f h = (rw (f, e), rw (← e) h)
 
 -- What a read leaves is reached by the bytes that it gave.
 pub turned_reached : (p : Parser) (r : Turn) → Turned p r → Reached p r.parser
 turned_reached p r t = record {
-  bytes = take (clamp_len t.got (length t.buf)) t.buf;
+  bytes = take (read_len t.got (length t.buf)) t.buf;
   are_bytes = t.are_bytes;
   fed = ap (λ (x : Turn). x.parser) t.turned;
 }

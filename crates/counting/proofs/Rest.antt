@@ -3,13 +3,15 @@
 --   handed buf m    the parser made of the parts that a slice feed left, and its answer
 use mathlib.Core.Path.{◌≡◌, refl, ◌∙◌}
 use mathlib.Core.List.{List}
-use Prim.Native.Nat.{ℕ, ◌+◌, ◌≤◌, ◌<◌}
+use Prim.Native.Nat.{ℕ, ◌+◌, ◌-◌, ◌≤◌, ◌<◌}
 use native.Mathlib.Omega.{arith}
-use lib.ListN.{length, get_or, drop, length-drop, drop_of_length-le}
-use lib.Seq.{drop-drop, get_or-drop}
+use lib.ListN.{length, get_or, take, drop, length-drop, drop_of_length-le}
+use lib.Seq.{take_all, drop-drop, get_or-drop}
 use Rattle.wire.proofs.Bytes.{bytes_at}
 use Rattle.stream.specs.Length.{link_limit}
 use Rattle.engine.specs.Calls.{feeds}
+use Rattle.scan.specs.declared.Scan.{Scan}
+use Rattle.scan.specs.declared.stats.Stats.{Stats}
 use Rattle.feed.specs.Moved.{slice_moved_of, slice_buf_of}
 use Rattle.feed.specs.declared.feeding.MovedSlice.{MovedSlice}
 use Rattle.parser.specs.Feed.{put, feed_slice_of}
@@ -26,10 +28,10 @@ pub record Rest (p q : Parser) (bs : List ℕ) (i : ℕ) : Type 0 where
   pub valid : Valid link_limit q
 
 -- A slice fed to a parser's parts leaves, and answers, what a slice feed of the parser does.
-abbrev pub handed : List ℕ → MovedSlice → FedSlice
+abbrev handed : List ℕ → MovedSlice → FedSlice
 handed buf m = record { parser = put buf m.scan m.stats; answer = m.answer }
 
-pub parts_fed : (p : Parser) (bs rest buf : List ℕ) (m : MovedSlice)
+parts_fed : (p : Parser) (bs rest buf : List ℕ) (m : MovedSlice)
     → m ≡ slice_moved_of link_limit p.scan p.stats p.buf bs
     → buf ≡ slice_buf_of link_limit p.scan p.stats p.buf bs → bs ≡ rest
     → handed buf m ≡ feed_slice_of link_limit p rest
@@ -61,3 +63,14 @@ module _ (p q : Parser) (bs : List ℕ) (i : ℕ) (h : Rest p q bs i) where
         valid = taken.valid;
       },
     )
+
+-- The same of a slice feed of a parser's parts.
+pub rest_parts : (p : Parser) (bs buf : List ℕ) (scan : Scan) (stats : Stats) (i : ℕ) → Rest p (put buf scan stats) bs i
+    → i < length bs → ((j : ℕ) → get_or bs j 0 < 256) → (left : List ℕ) (m : MovedSlice)
+    → let rest = take (length bs - i) (drop i bs) in
+    (m ≡ slice_moved_of link_limit scan stats buf rest) × (left ≡ slice_buf_of link_limit scan stats buf rest)
+    → (0 < m.answer.count) × Rest p (put left m.scan m.stats) bs (i + m.answer.count)
+rest_parts p bs buf scan stats i h inner bytes left m e =
+    let q = put buf scan stats in
+    let all = take_all (length bs - i) (drop i bs) (omega (arith, length-drop i bs)) in
+    rest_further p q bs i h inner bytes (handed left m) (parts_fed q _ (drop i bs) left m e.0 e.1 all)
