@@ -50,7 +50,7 @@ fn present(program: &Program, path: &Path) -> io::Result<()> {
     let Program { name, option, .. } = program;
     let place = path.display();
     let message =
-        format!("our program is missing: no file {place} (rt run in its folder builds it; {option} PROGRAM names another)");
+        format!("our program is missing: no file {place} (rt run in crates/{name} builds it; {option} PROGRAM names another)");
     Err(io::Error::other(message))
 }
 
