@@ -1,5 +1,5 @@
 // The parser by value: taken, fed or reset, and handed back. Each call lends a local to the same call on a lent parser,
-// so that its own caller lends nothing, and needs no proof about memory.
+// so that its own caller lends nothing.
 ghost use Rattle.std.specs.Prelude.{◌≡◌, []};
 ghost use Rattle.stream.specs.Length.{link_limit};
 ghost use Rattle.parser.specs.Feed.{feed_of, feed_slice_of, reset_of};

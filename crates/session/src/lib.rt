@@ -1,7 +1,6 @@
 // A session, one conversation with the module: it hands over one command at a time, and says when it is acknowledged.
 //
-// A session is taken and returned by value: it holds the command that it waits for, and the toolchain has no reference
-// to an enum that holds a value.
+// A session is taken and returned by value: with the command that it waits for, it has 8 bytes.
 
 #![tactic(auto)]
 

@@ -45,7 +45,7 @@ pub fails : (b : Bool) → (b ≡ true → ⊥) → b ≡ false
 fails true h = absurd (h refl)
 fails false h = refl
 
--- The test `inRange` passes exactly if the length is in range.
+-- The test `in_range` passes exactly if the length is in range.
 pub range_true : (limit n : ℕ) → in_range limit n ≡ true ↔ InRange limit n
 range_true limit n = (
   λ e. let p = (and-eq-true_iff _ _).0 e in (leb-true 2 n p.0, leb-true n limit p.1),

@@ -1,6 +1,6 @@
 -- The data lengths that the stream takes.
 --   link_limit         the largest length of document 01
---   InRange limit n   the length n is 2 to `limit`; inRange is the same as a test
+--   InRange limit n    the length n is 2 to `limit`; in_range is the same as a test
 use Rattle.std.specs.Prelude.{Bool, ◌&&◌, ℕ, ◌≤◌, leb}
 
 abbrev pub link_limit : ℕ

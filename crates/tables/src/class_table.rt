@@ -2,8 +2,8 @@
 ghost use Rattle.tables.specs.Matching.{OneEach};
 ghost use Rattle.tables.specs.Table.{Classes};
 
-// The class of a byte is its place in F4 F3 F2 F1 FD FC FB FA F8 F7 F6 F5 04 03 02 01, or 16. One entry a line, with
-// the byte beside those of a header or tail and beside every sixteenth.
+// The class of a byte is its place in F4 F3 F2 F1 FD FC FB FA F8 F7 F6 F5 04 03 02 01, or 16. A comment names
+// the last byte of its line.
 const CLASSES: [u8; 256] = [
     16, // 00
     15, // 01
