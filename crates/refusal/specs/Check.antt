@@ -5,28 +5,28 @@
 --   Passes cs s         every check of cs holds on s
 --   FailsFirst cs c s   the check c of cs fails on s, and each check before it holds
 --   error_of c           the refusal if c is the first check that fails: 2 for R6 ("else refusal 2"), 1 for every other
---   outcome_of o         the outcome of a reader whose first failed check, if any, is o
+--   checked_by cs s v    the answer by the checks cs on s: the first that fails, or the value v if every one holds
+--   told_by a            the answer a with the refusal in place of the check
 --   Causes z cs s r     r returns each number exactly in its cause, and beside a refusal every other field is 0; z is
 --                       the value with every field 0
-use Rattle.std.specs.Prelude.{◌≡◌, ◌≢◌, ◌↔◌, ◌⊎◌, List, [], ◌∷◌, ◌++◌, Bool, true, false, cond, ℕ}
+use Rattle.std.specs.Prelude.{◌≡◌, ◌≢◌, ◌↔◌, ◌⊎◌, List, [], ◌∷◌, ◌++◌, Bool, true, false, cond, ℕ, Some, None}
+use Rattle.std.specs.declared.option.Option.{Option}
+use Rattle.std.specs.Result.{result_map_both}
+use Rattle.std.specs.declared.result.Result.{Result}
 use Rattle.refusal.specs.declared.Error.{Error}
 use Rattle.refusal.specs.declared.Error.TheVariants.{InvalidFormat, Unsupported}
-use Rattle.refusal.specs.Refusal.{Returned}
-use Rattle.refusal.specs.declared.Outcome.{Outcome}
-use Rattle.refusal.specs.declared.Outcome.TheVariants.{Ok, Err}
-use Rattle.refusal.specs.declared.MaybeCheck.{MaybeCheck}
-use Rattle.refusal.specs.declared.MaybeCheck.TheVariants as Maybe
+use Rattle.refusal.specs.Refusal.{Returned, or_error}
 use Rattle.refusal.specs.declared.Check.{Check}
 use Rattle.refusal.specs.declared.Check.TheVariants.{F1, F2, F3, F4, R1, R2, R3, R4, R5, R6, R7, R8, A1, A2}
 
 abbrev pub Checks : Type 0
 Checks = List (Check × (List ℕ → Bool))
 
-abbrev pub or_failed : Bool → Check → MaybeCheck → MaybeCheck
-or_failed holds c later = cond holds later (Maybe.Some c)
+abbrev pub or_failed : Bool → Check → Option Check → Option Check
+or_failed holds c later = cond holds later (Some c)
 
-abbrev pub first_failed : Checks → List ℕ → MaybeCheck
-first_failed [] s = Maybe.None
+abbrev pub first_failed : Checks → List ℕ → Option Check
+first_failed [] s = None
 first_failed (x ∷ cs) s = or_failed (x.1 s) x.0 (first_failed cs s)
 
 abbrev pub Passes : Checks → List ℕ → Type 0
@@ -57,9 +57,11 @@ error_of R8 = InvalidFormat
 error_of A1 = InvalidFormat
 error_of A2 = InvalidFormat
 
-abbrev pub outcome_of : MaybeCheck → Outcome
-outcome_of (Maybe.Some c) = Err (error_of c)
-outcome_of Maybe.None = Ok
+abbrev pub checked_by : {A : Type 0} → Checks → List ℕ → A → Result A Check
+checked_by cs s v = or_error (first_failed cs s) v
+
+abbrev pub told_by : {A : Type 0} → Result A Check → Result A Error
+told_by a = result_map_both (λ v. v) error_of a
 
 pub record Causes {A : Type 0} (z : A) (cs : Checks) (s : List ℕ) (r : Returned A) : Type 0 where
   -- nothing is refused exactly if every check holds

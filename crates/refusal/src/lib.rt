@@ -4,10 +4,10 @@
 
 ghost use Rattle.std.specs.Prelude.{◌≡◌};
 ghost use Rattle.refusal.specs.Refusal.{number_of, needed_of, refusal_of};
-ghost use Rattle.refusal.specs.Check.{error_of, outcome_of};
+ghost use Rattle.refusal.specs.Check.{error_of};
 
 // The refusals of a call.
-#[derive(Clone, Copy)]
+#[derive(Clone, Copy, PartialEq, Eq)]
 pub enum Error {
     // A layout that does not fit, another command's acknowledgement, a short payload.
     InvalidFormat,
@@ -23,15 +23,8 @@ pub enum Error {
     Unrepresentable,
 }
 
-// Success, or a refusal. The value beside a refusal is all 0.
-#[derive(Clone, Copy)]
-pub enum Outcome {
-    Ok,
-    Err(Error),
-}
-
 // The checks of a frame (F), of a report's data (R) and of an acknowledgement's data (A), in the order of document 01.
-#[derive(Clone, Copy)]
+#[derive(Clone, Copy, PartialEq, Eq)]
 pub enum Check {
     F1,
     F2,
@@ -47,13 +40,6 @@ pub enum Check {
     R8,
     A1,
     A2,
-}
-
-// The check that failed first, if one did.
-#[derive(Clone, Copy)]
-pub enum MaybeCheck {
-    Some(Check),
-    None,
 }
 
 impl Error {
@@ -77,59 +63,47 @@ impl Error {
     {
         match self {
             Error::BufferTooSmall { needed } => needed,
-            Error::InvalidFormat => 0,
-            Error::Unsupported => 0,
-            Error::Hardware => 0,
-            Error::UnknownCommand => 0,
-            Error::Unrepresentable => 0,
+            Error::InvalidFormat
+            | Error::Unsupported
+            | Error::Hardware
+            | Error::UnknownCommand
+            | Error::Unrepresentable => 0,
         }
     }
 }
 
-impl Outcome {
-    // Returns the refusal's number, or 0 if nothing is refused.
-    pub fn number(self) -> u8
-        ensures numbered { result ≡ refusal_of self }
-    {
-        match self {
-            Outcome::Ok => 0,
-            Outcome::Err(e) => e.number(),
-        }
-    }
-}
+impl From<Check> for Error {
+    ghost from_gives = { λ check error. error ≡ error_of check };
 
-impl MaybeCheck {
-    // Returns a reader's answer: the refusal that the first failed check gives, or none.
-    pub fn outcome(self) -> Outcome
-        ensures refused { result ≡ outcome_of self }
-    {
-        match self {
-            MaybeCheck::Some(c) => Outcome::Err(c.error()),
-            MaybeCheck::None => Outcome::Ok,
-        }
-    }
-}
-
-impl Check {
     // Returns the refusal that a reader gives if this check is the first that fails.
-    pub fn error(self) -> Error
-        ensures refused { result ≡ error_of self }
+    fn from(check: Check) -> Error
+        ensures refused { result ≡ error_of check }
     {
-        match self {
-            Check::F1 => Error::InvalidFormat,
-            Check::F2 => Error::InvalidFormat,
-            Check::F3 => Error::InvalidFormat,
-            Check::F4 => Error::InvalidFormat,
-            Check::R1 => Error::InvalidFormat,
-            Check::R2 => Error::InvalidFormat,
-            Check::R3 => Error::InvalidFormat,
-            Check::R4 => Error::InvalidFormat,
-            Check::R5 => Error::InvalidFormat,
+        match check {
             Check::R6 => Error::Unsupported,
-            Check::R7 => Error::InvalidFormat,
-            Check::R8 => Error::InvalidFormat,
-            Check::A1 => Error::InvalidFormat,
-            Check::A2 => Error::InvalidFormat,
+            Check::F1
+            | Check::F2
+            | Check::F3
+            | Check::F4
+            | Check::R1
+            | Check::R2
+            | Check::R3
+            | Check::R4
+            | Check::R5
+            | Check::R7
+            | Check::R8
+            | Check::A1
+            | Check::A2 => Error::InvalidFormat,
         }
+    }
+}
+
+// Returns the number of the refusal in an answer, or 0 if nothing is refused.
+pub fn refusal_number<T: Copy>(answer: Result<T, Error>) -> u8
+    ensures numbered { result ≡ refusal_of answer }
+{
+    match answer {
+        Ok(_) => 0,
+        Err(error) => error.number(),
     }
 }

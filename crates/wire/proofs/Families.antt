@@ -10,7 +10,7 @@ use Rattle.wire.proofs.Equality.{same_sound}
 use Rattle.wire.specs.Family.{header, tail, header_of}
 use Rattle.wire.specs.declared.Kind.{Kind}
 use Rattle.wire.specs.declared.Kind.TheVariants.{Report, Command}
-use Rattle.wire.specs.declared.MaybeKind.TheVariants.{Some, None}
+use Rattle.std.specs.Prelude.{Some, None}
 
 -- A header and a tail have four bytes.
 pub header_length : (k : Kind) → length (header k) ≡ 4

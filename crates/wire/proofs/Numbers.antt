@@ -2,7 +2,8 @@
 use mathlib.Core.Path.{◌≡◌, refl, sym, ◌∙◌}
 use mathlib.Core.List.{List, [], ◌∷◌, ◌++◌}
 use mathlib.Core.Bool.{Bool, true, false, cond}
-use mathlib.Core.Option.{none, some}
+use Rattle.std.specs.Prelude.{Some, None}
+use Rattle.std.specs.declared.option.Option.{Option}
 use Prim.Native.Nat.{ℕ, ◌+◌, ◌*◌, ◌^◌, ◌≤◌, ◌<◌}
 use native.Mathlib.Nat.{pow-suc}
 use native.Mathlib.Omega.{arith}
@@ -11,13 +12,7 @@ use lib.ListN.{length, get_or, take, drop, length-take, length-drop}
 use lib.Seq.{drop-cons, take-add, drop-drop}
 use borrow.Author.Tests.{le-leb, lt-leb, leb-true, leb-false}
 use Rattle.wire.proofs.Conditions.{cond-true, cond-false}
-use Rattle.wire.specs.Number.{little, number_at, answered, byte_at, le16_at, le32_at}
-use Rattle.wire.specs.declared.number.MaybeU8.{MaybeU8}
-use Rattle.wire.specs.declared.number.MaybeU8.TheVariants as U8
-use Rattle.wire.specs.declared.number.MaybeU16.{MaybeU16}
-use Rattle.wire.specs.declared.number.MaybeU16.TheVariants as U16
-use Rattle.wire.specs.declared.number.MaybeU32.{MaybeU32}
-use Rattle.wire.specs.declared.number.MaybeU32.TheVariants as U32
+use Rattle.wire.specs.Number.{little, number_at, byte_at}
 
 -- The n bytes of s from place i on are all there, and make the number x.
 pub record There (n : ℕ) (s : List ℕ) (i x : ℕ) : Type 0 where
@@ -53,121 +48,64 @@ there_one s i h = record { inside = omega arith; value = rw (drop-cons s i 0 h) 
 pub there_byte : (s : List ℕ) (i : ℕ) {x : ℕ} → There 1 s i x → x ≡ get_or s i 0
 there_byte s i h = h.value ∙ sym (there_one s i (omega arith)).value
 
--- The widths that the code reads; for each, how many bytes it has, the type of the answer, and its two variants.
-pub data Width : Type 0 where
-  one : Width
-  two : Width
-  four : Width
-
-abbrev pub size : Width → ℕ
-size one = 1
-size two = 2
-size four = 4
-
-abbrev pub Answer : Width → Type 0
-Answer one = MaybeU8
-Answer two = MaybeU16
-Answer four = MaybeU32
-
-abbrev pub there : (w : Width) → ℕ → Answer w
-there one x = U8.Some x
-there two x = U16.Some x
-there four x = U32.Some x
-
-abbrev pub missing : (w : Width) → Answer w
-missing one = U8.None
-missing two = U16.None
-missing four = U32.None
-
-abbrev pub read_at : (w : Width) → List ℕ → ℕ → Answer w
-read_at one s i = byte_at s i
-read_at two s i = le16_at s i
-read_at four s i = le32_at s i
-
--- The first variant determines the number in it, and the two variants differ.
-there_injective : (w : Width) (x y : ℕ) → there w x ≡ there w y → x ≡ y
-there_injective one x y e = cc
-there_injective two x y e = cc
-there_injective four x y e = cc
-
-there_apart : (w : Width) (x : ℕ) → there w x ≡ missing w → ◌≡◌ {A = ℕ} 0 1
-there_apart one x e = cc
-there_apart two x e = cc
-there_apart four x e = cc
-
--- Whether the bytes are all there chooses the answer at a width.
-answered_cond : (w : Width) (t : Bool) (x : ℕ)
-    → answered (there w) (missing w) (cond t (some x) none) ≡ cond t (there w x) (missing w)
-answered_cond w true x = refl
-answered_cond w false x = refl
-
-module _ (w : Width) (s : List ℕ) (i : ℕ) where
+module _ (n : ℕ) (s : List ℕ) (i : ℕ) where
   abbrev inside : Bool
-  inside = leb (i + size w) (length s)
+  inside = leb (i + n) (length s)
 
   abbrev value : ℕ
-  value = little (take (size w) (drop i s))
+  value = little (take n (drop i s))
 
-  read_answered : read_at w s i ≡ answered (there w) (missing w) (number_at (size w) s i)
-  unfolding byte_at le16_at le32_at
-  read_answered = elim w as (λ v. read_at v s i ≡ answered (there v) (missing v) (number_at (size v) s i)) [
-    | one ↦ refl
-    | two ↦ refl
-    | four ↦ refl
-  ]
-
-  read_cond : read_at w s i ≡ cond inside (there w value) (missing w)
-  read_cond = read_answered ∙ answered_cond w inside value
+  read_cond : number_at n s i ≡ cond inside (Some value) None
+  unfolding number_at
+  read_cond = refl
 
   -- The answer if all bytes are there, and if some are missing; and what each answer says of the bytes.
-  pub read_there : {x : ℕ} → There (size w) s i x → read_at w s i ≡ there w x
-  read_there h = read_cond ∙ rw (le-leb (i + size w) (length s) h.inside, h.value)
+  pub read_there : {x : ℕ} → There n s i x → number_at n s i ≡ Some x
+  read_there h = read_cond ∙ rw (le-leb (i + n) (length s) h.inside, h.value)
 
-  pub read_missing : length s < i + size w → read_at w s i ≡ missing w
-  read_missing h = read_cond ∙ rw (lt-leb (i + size w) (length s) h)
+  pub read_missing : length s < i + n → number_at n s i ≡ None
+  read_missing h = read_cond ∙ rw (lt-leb (i + n) (length s) h)
 
-  pub read_some : {x : ℕ} → read_at w s i ≡ there w x → There (size w) s i x
+  pub read_some : {x : ℕ} → number_at n s i ≡ Some x → There n s i x
   read_some {x} e =
       let told = sym read_cond ∙ e in
-      let t = cond-true inside (there w value) (missing w) told (λ q. there_apart w x (sym q)) in
-      let held : there w x ≡ there w value = rw t at (sym told) in
-      record { inside = leb-true (i + size w) (length s) t; value = there_injective w x value held }
+      let t = cond-true inside (Some value) None told (λ q. cc) in
+      let held : Some x ≡ Some value = rw t at (sym told) in
+      record { inside = leb-true (i + n) (length s) t; value = cc }
 
-  pub read_none : read_at w s i ≡ missing w → length s < i + size w
+  pub read_none : number_at n s i ≡ None → length s < i + n
   read_none e =
-      leb-false (i + size w) (length s)
-      (cond-false inside (there w value) (missing w) (sym read_cond ∙ e) (there_apart w value))
+      leb-false (i + n) (length s) (cond-false inside (Some value) None (sym read_cond ∙ e) (λ q. cc))
 
 -- The same for the search in a need, which finds the code's answer o: if a number within n bytes is missing, there are
 -- fewer than n; if one that ends n bytes in or later is there, there are at least n.
-pub read_short : (w : Width) (s : List ℕ) (i n : ℕ) (o : Answer w) → o ≡ missing w → o ≡ read_at w s i
-    → leb (i + size w) n ≡ true → length s < n
+pub read_short : (w : ℕ) (s : List ℕ) (i n : ℕ) (o : Option ℕ) → o ≡ None → o ≡ number_at w s i
+    → leb (i + w) n ≡ true → length s < n
 read_short w s i n o e q t =
     let gone = read_none w s i (sym q ∙ e) in
-    let wanted = leb-true (i + size w) n t in
+    let wanted = leb-true (i + w) n t in
     omega arith
 
-pub read_long : (w : Width) (s : List ℕ) (i n : ℕ) (o : Answer w) (x : ℕ) → o ≡ there w x → o ≡ read_at w s i
-    → leb n (i + size w) ≡ true → n ≤ length s
+pub read_long : (w : ℕ) (s : List ℕ) (i n : ℕ) (o : Option ℕ) (x : ℕ) → o ≡ Some x → o ≡ number_at w s i
+    → leb n (i + w) ≡ true → n ≤ length s
 read_long w s i n o x e q t =
     let inside = (read_some w s i (sym q ∙ e)).inside in
-    let wanted = leb-true n (i + size w) t in
+    let wanted = leb-true n (i + w) t in
     omega arith
 
 -- A byte that was read is the byte at that place.
-pub byte_is : (s : List ℕ) (i : ℕ) {x : ℕ} → byte_at s i ≡ U8.Some x → x ≡ get_or s i 0
-byte_is s i e = there_byte s i (read_some one s i e)
+pub byte_is : (s : List ℕ) (i : ℕ) {x : ℕ} → byte_at s i ≡ Some x → x ≡ get_or s i 0
+byte_is s i e = there_byte s i (read_some 1 s i e)
 
 -- A number of two halves is there if both are, and missing if one is.
-module _ (w v : Width) (halved : size v ≡ size w + size w) (s : List ℕ) (i : ℕ) where
-  pub first_missing : read_at w s i ≡ missing w → missing v ≡ read_at v s i
-  first_missing e = let gone = read_none w s i e in sym (read_missing v s i (omega arith))
+module _ (w : ℕ) (s : List ℕ) (i : ℕ) where
+  pub first_missing : number_at w s i ≡ None → number_at (w + w) s i ≡ None
+  first_missing e = let gone = read_none w s i e in read_missing (w + w) s i (omega arith)
 
-  pub second_missing : read_at w s (i + size w) ≡ missing w → missing v ≡ read_at v s i
-  second_missing e = let gone = read_none w s (i + size w) e in sym (read_missing v s i (omega arith))
+  pub second_missing : number_at w s (i + w) ≡ None → number_at (w + w) s i ≡ None
+  second_missing e = let gone = read_none w s (i + w) e in read_missing (w + w) s i (omega arith)
 
-  pub halves_there : (x y : ℕ) → read_at w s i ≡ there w x → read_at w s (i + size w) ≡ there w y
-      → there v (x + 256 ^ size w * y) ≡ read_at v s i
+  pub halves_there : (x y : ℕ) → number_at w s i ≡ Some x → number_at w s (i + w) ≡ Some y
+      → number_at (w + w) s i ≡ Some (x + 256 ^ w * y)
   halves_there x y e f =
-      let whole = there_append (size w) (size w) s i x y (read_some w s i e) (read_some w s (i + size w) f) in
-      sym (read_there v s i (rw halved whole))
+      read_there (w + w) s i (there_append w w s i x y (read_some w s i e) (read_some w s (i + w) f))

@@ -5,38 +5,22 @@ ghost use Rattle.std.specs.Prelude.{◌≡◌};
 ghost use Rattle.wire.specs.Prefix.{pasted, prefixed};
 ghost use Rattle.wire.specs.Equal.{same_bytes};
 
-use crate::number::min;
-
 // Tests whether two slices hold the same bytes.
 pub fn bytes_eq(a: &[u8], b: &[u8]) -> bool
     ensures compared { result ≡ same_bytes a.now b.now }
 {
-    if a.len() != b.len() {
-        return false;
-    }
-    let mut i = 0;
-    while i < a.len() {
-        if a[i] != b[i] {
-            return false;
-        }
-        i += 1;
-    }
-    true
+    a == b
 }
 
 // Copies as much of `src` as fits into `dst` from place `at` on.
 pub fn copy_at(dst: &mut [u8], at: usize, src: &[u8])
     ensures copied { dst.new ≡ pasted dst.old at src.now }
 {
-    if dst.len() < at {
+    let Some(rest) = dst.get_mut(at..) else {
         return;
-    }
-    let n = min(dst.len() - at, src.len());
-    let mut i = 0;
-    while i < n {
-        dst[at + i] = src[i];
-        i += 1;
-    }
+    };
+    let count = rest.len().min(src.len());
+    rest[..count].copy_from_slice(&src[..count]);
 }
 
 // Copies as much of `src` as fits into the front of `dst`.

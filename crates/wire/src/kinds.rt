@@ -2,7 +2,7 @@
 ghost use Rattle.std.specs.Prelude.{◌≡◌};
 ghost use Rattle.wire.specs.Family.{header, tail, starting_with, header_of};
 
-use super::{Kind, MaybeKind};
+use super::Kind;
 use crate::byte_string::bytes_eq;
 
 impl Kind {
@@ -15,13 +15,13 @@ impl Kind {
     pub const COMMAND_TAIL: [u8; 4] = [0x04, 0x03, 0x02, 0x01];
 
     // Returns the kind whose header starts with `byte`, if any.
-    pub fn starting_with(byte: u8) -> MaybeKind
+    pub fn starting_with(byte: u8) -> Option<Kind>
         ensures found { result ≡ starting_with byte }
     {
         match byte {
-            0xF4 => MaybeKind::Some(Kind::Report),
-            0xFD => MaybeKind::Some(Kind::Command),
-            _ => MaybeKind::None,
+            0xF4 => Some(Kind::Report),
+            0xFD => Some(Kind::Command),
+            _ => None,
         }
     }
 }
@@ -47,16 +47,14 @@ pub fn tail_of(kind: Kind) -> [u8; 4]
 }
 
 // Returns the kind whose header the bytes are, if they are one.
-pub fn family_of(bytes: &[u8]) -> MaybeKind
+pub fn family_of(bytes: &[u8]) -> Option<Kind>
     ensures found { result ≡ header_of bytes.now }
 {
-    let report = Kind::REPORT_HEADER;
-    if bytes_eq(bytes, &report) {
-        return MaybeKind::Some(Kind::Report);
+    if bytes_eq(bytes, &Kind::REPORT_HEADER) {
+        return Some(Kind::Report);
     }
-    let command = Kind::COMMAND_HEADER;
-    if bytes_eq(bytes, &command) {
-        return MaybeKind::Some(Kind::Command);
+    if bytes_eq(bytes, &Kind::COMMAND_HEADER) {
+        return Some(Kind::Command);
     }
-    MaybeKind::None
+    None
 }

@@ -14,7 +14,7 @@ ghost use Rattle.wire.specs.Gate.{gate_values};
 
 pub use byte_string::{bytes_eq, copy_at, copy_prefix};
 pub use kinds::{family_of, header_of, tail_of};
-pub use number::{MaybeU8, MaybeU16, MaybeU32, bump, byte_at, le16, le32, min};
+pub use number::{bump, byte_at, le16, le32};
 
 // Number of distance gates the module reports: gates 0 to 8.
 pub const GATES: usize = 9;
@@ -35,17 +35,10 @@ pub const MAX_EXTRA: usize = 8;
 pub const ACK_BIT: u16 = 0x0100;
 
 // The kind of a frame, which its header announces.
-#[derive(Clone, Copy)]
+#[derive(Clone, Copy, PartialEq, Eq)]
 pub enum Kind {
     Report,
     Command,
-}
-
-// A kind, if there is one.
-#[derive(Clone, Copy)]
-pub enum MaybeKind {
-    Some(Kind),
-    None,
 }
 
 // A value for each gate; the first `count` are valid.
@@ -61,21 +54,16 @@ pub fn gate_values(bytes: [u8; GATES], count: usize) -> GateValues
 {
     GateValues {
         bytes,
-        count: min(count, GATES),
+        count: count.min(GATES),
     }
 }
 
-// Returns the first bytes of `src` in an array with a place for each gate, 0 where `src` has none. It moves nine bytes
-// at most, so a byte counts them.
-pub fn gate_array(src: &[u8]) -> [u8; GATES]
-    ensures copied { result ≡ padded 9 src.now }
+// Returns the first bytes of `src` in an array of `N`, with zeros after them if `src` has fewer.
+pub fn zero_padded<const N: usize>(src: &[u8]) -> [u8; N]
+    ensures copied { result ≡ padded N src.now }
 {
-    let mut bytes: [u8; GATES] = [0; GATES];
-    let count = min(GATES, src.len()) as u8;
-    let mut gate: u8 = 0;
-    while gate < count {
-        bytes[gate as usize] = src[gate as usize];
-        gate += 1;
-    }
+    let mut bytes = [0; N];
+    let count = src.len().min(N);
+    bytes[..count].copy_from_slice(&src[..count]);
     bytes
 }
