@@ -8,13 +8,14 @@ use borrow.Author.Tests.{le-leb, lt-leb}
 use Rattle.wire.specs.Number.{le_bytes}
 use Rattle.wire.specs.Family.{header, tail, framed}
 use Rattle.wire.specs.declared.Kind.{Kind}
+use Rattle.std.specs.Prelude.{Ok, Err}
+use Rattle.std.specs.declared.result.Result.{Result}
+use Rattle.refusal.specs.declared.Error.{Error}
 use Rattle.refusal.specs.declared.Error.TheVariants.{Unrepresentable, BufferTooSmall}
 use Rattle.wire.proofs.Families.{header_length, tail_length}
 use Rattle.wire.proofs.Framed.{framed_length}
 use Rattle.writer.specs.Put.{put_in}
 use Rattle.writer.specs.Written.{written, framable, frame_refusal}
-use Rattle.writer.specs.declared.WriteResult.{WriteResult}
-use Rattle.writer.specs.declared.WriteResult.TheVariants.{Ok, Err}
 use Rattle.writer.proofs.Chain.{put_nil, put_next, put_written}
 use Rattle.writer.proofs.Writers.{Wrote, Shown, wrote_refused, wrote_short, wrote_whole, shown}
 
@@ -34,7 +35,7 @@ put_parts out k d b₁ b₂ b₃ b₄ h e₁ e₂ e₃ e₄ =
 
 -- What the contract of `put_frame` asks, in its three cases.
 module _ (k : Kind) (d out : List ℕ) where
-  frame_shown : (left : List ℕ) {r : WriteResult} → Wrote (frame_refusal d) (framed k d) out r left
+  frame_shown : (left : List ℕ) {r : Result ℕ Error} → Wrote (frame_refusal d) (framed k d) out r left
       → Shown Unrepresentable (framable d) (framed k d) out r left
   frame_shown = shown Unrepresentable (λ z. omega arith) (λ z. omega arith) (framable d) (framed k d) out
 

@@ -4,7 +4,8 @@ use mathlib.Core.Path.{◌≡◌, refl, sym, ◌∙◌}
 use mathlib.Core.Logic.{◌↔◌}
 use mathlib.Core.List.{List}
 use mathlib.Core.Bool.{Bool, true, false}
-use mathlib.Core.Option.{none}
+use Rattle.std.specs.Prelude.{None, Ok, Err}
+use Rattle.std.specs.declared.result.Result.{Result}
 use Prim.Native.Nat.{ℕ, ◌≤◌}
 use native.Mathlib.Omega.{arith}
 use lib.ListN.{length, take}
@@ -12,13 +13,11 @@ use borrow.Author.Tests.{le-leb}
 use Rattle.wire.specs.Bytes.{Bytes}
 use Rattle.wire.specs.Family.{framed}
 use Rattle.wire.specs.declared.Kind.{Kind}
-use Rattle.refusal.specs.Refusal.{number_of}
+use Rattle.refusal.specs.Refusal.{number_of, refusal_of}
 use Rattle.refusal.specs.declared.Error.{Error}
 use Rattle.refusal.specs.declared.Error.TheVariants.{Unrepresentable}
-use Rattle.writer.specs.Written.{written, unless, framable, number_of_write, WriteCauses}
+use Rattle.writer.specs.Written.{written, unless, framable, WriteCauses}
 use Rattle.writer.specs.RoundTrip.{Codec, writes, leaves, Written, RoundTrip}
-use Rattle.writer.specs.declared.WriteResult.{WriteResult}
-use Rattle.writer.specs.declared.WriteResult.TheVariants.{Ok, Err}
 use Rattle.writer.proofs.Chain.{written_front}
 use Rattle.writer.proofs.Writers.{Wrote, Shown, wrote_refused, wrote_all, wrote_whole, none_good}
 use Rattle.writer.proofs.Writers.{write_causes, shown}
@@ -37,7 +36,7 @@ pub record Agreed {A : Type 0} (C : Codec A) (v : A) (e : Error) (good : Bool) :
   pub again : (s : List ℕ) → Bytes s → C.Within s → C.Kept s → C.Reads s v → C.frame v ≡ s
 
 -- What the contract of a writer asks: its answer, its buffer, the causes, and the round trip.
-abbrev pub ShownRound : {A : Type 0} → Codec A → A → Bool → List ℕ → WriteResult → List ℕ → Type 0
+abbrev pub ShownRound : {A : Type 0} → Codec A → A → Bool → List ℕ → Result ℕ Error → List ℕ → Type 0
 ShownRound C v good out r left =
     record {
       told : r ≡ writes C v out;
@@ -73,7 +72,7 @@ module _ {A : Type 0} {C : Codec A} {v : A} {e : Error} {good : Bool} (h : Agree
   unread_bad true q u = let w = h.written q in absurd (u (C.frame v) (h.bytes q) w.within w.read)
   unread_bad false q u = q
 
-  refused_exactly : (out : List ℕ) → (number_of_write (writes C v out) ≡ C.number) ↔ Unread
+  refused_exactly : (out : List ℕ) → (refusal_of (writes C v out) ≡ C.number) ↔ Unread
   refused_exactly out =
       let bad = (write_causes e h.apart h.some (C.frame v) (length out) good).refused in
       rw (h.refused, h.number) (λ z. bad_unread (bad.0 z), λ u. bad.1 (unread_bad good refl u))
@@ -82,7 +81,7 @@ module _ {A : Type 0} {C : Codec A} {v : A} {e : Error} {good : Bool} (h : Agree
   pub round_trip : RoundTrip C v
   round_trip = record { back = read_back; exact = refused_exactly; again = written_again }
 
-  round_shown : (out left : List ℕ) {r : WriteResult} → Wrote (unless good e) (C.frame v) out r left
+  round_shown : (out left : List ℕ) {r : Result ℕ Error} → Wrote (unless good e) (C.frame v) out r left
       → ShownRound C v good out r left
   round_shown out left w =
       let x = shown e h.apart h.some good (C.frame v) out left w in
@@ -97,7 +96,7 @@ module _ {A : Type 0} {C : Codec A} {v : A} {e : Error} {good : Bool} (h : Agree
   pub round_refused : (out : List ℕ) → good ≡ false → ShownRound C v good out (Err e) out
   round_refused out q = round_shown out out (rw q (wrote_refused (C.frame v) out e))
 
-  pub round_framed : (k : Kind) (d out b left : List ℕ) {r : WriteResult} → C.frame v ≡ framed k d → length d ≤ 65535
+  pub round_framed : (k : Kind) (d out b left : List ℕ) {r : Result ℕ Error} → C.frame v ≡ framed k d → length d ≤ 65535
       → good ≡ true → b ≡ d → Shown Unrepresentable (framable b) (framed k b) out r left
       → ShownRound C v good out r left
   round_framed k d out b left f l g q s =
@@ -107,6 +106,6 @@ module _ {A : Type 0} {C : Codec A} {v : A} {e : Error} {good : Bool} (h : Agree
       round_shown out left (rw (g, f) (told, kept))
 
   -- Or, if it is good, write its frame without `put_frame`.
-  pub round_wrote : (out left : List ℕ) {r : WriteResult} → good ≡ true → Wrote none (C.frame v) out r left
+  pub round_wrote : (out left : List ℕ) {r : Result ℕ Error} → good ≡ true → Wrote None (C.frame v) out r left
       → ShownRound C v good out r left
   round_wrote out left g w = round_shown out left (rw g w)

@@ -4,13 +4,13 @@
 --   writes C v out   the writer's answer for v and the buffer out; leaves C v out is the buffer afterwards
 --   Written C v s    the string s is within the writer's limits, is kept, and is read as v
 --   RoundTrip C v    writer and reader agree on the value v
-use Rattle.std.specs.Prelude.{◌≡◌, ◌↔◌, List, ℕ, ◌≤◌, length, take}
-use Rattle.std.proofs.Math.Option.{Option}
+use Rattle.std.specs.Prelude.{◌≡◌, ◌↔◌, List, ℕ, ◌≤◌, length, take, Ok}
+use Rattle.std.specs.declared.option.Option.{Option}
+use Rattle.std.specs.declared.result.Result.{Result}
 use Rattle.wire.specs.Bytes.{Bytes}
+use Rattle.refusal.specs.Refusal.{refusal_of}
 use Rattle.refusal.specs.declared.Error.{Error}
-use Rattle.writer.specs.Written.{written, write_result, buffer_after, number_of_write}
-use Rattle.writer.specs.declared.WriteResult.{WriteResult}
-use Rattle.writer.specs.declared.WriteResult.TheVariants.{Ok}
+use Rattle.writer.specs.Written.{written, write_result, buffer_after}
 
 pub record Codec (A : Type 0) : Type 1 where
   -- the refusal of a value that cannot be written, and its number; the frame of a value
@@ -23,7 +23,7 @@ pub record Codec (A : Type 0) : Type 1 where
   pub Within : List ℕ → Type 0
   pub Kept : List ℕ → Type 0
 
-abbrev pub writes : {A : Type 0} → Codec A → A → List ℕ → WriteResult
+abbrev pub writes : {A : Type 0} → Codec A → A → List ℕ → Result ℕ Error
 writes C v out = write_result (C.refusal v) (C.frame v) (length out)
 
 abbrev pub leaves : {A : Type 0} → Codec A → A → List ℕ → List ℕ
@@ -38,7 +38,7 @@ pub record RoundTrip {A : Type 0} (C : Codec A) (v : A) : Type 0 where
   -- what is written, into any buffer, is read as the value, and is a string that is kept
   pub back : (out : List ℕ) (n : ℕ) → writes C v out ≡ Ok n → Written C v (take n (leaves C v out))
   -- the value's refusal is given exactly if no string within the writer's limits is read as the value
-  pub exact : (out : List ℕ) → (number_of_write (writes C v out) ≡ C.number)
+  pub exact : (out : List ℕ) → (refusal_of (writes C v out) ≡ C.number)
       ↔ ((s : List ℕ) → Bytes s → C.Within s → C.Reads s v → ⊥)
   -- a kept string that is read as the value is written again, byte for byte, into any buffer that is long enough
   pub again : (s : List ℕ) → Bytes s → C.Within s → C.Kept s → C.Reads s v
