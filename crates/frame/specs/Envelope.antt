@@ -3,26 +3,25 @@
 --   family s         the family whose header s begins with, if any
 --   announced s      the length that the length bytes of s announce
 --   data_of s         that many bytes after the length bytes
---   is_family m       m is a family
 --   ends_as m t       t is exactly the tail of the family m
 --   f1, f2, f3, f4   the tests of F1 to F4
 --   frame_checks      F1 to F4, in this order
 --   opened_as m o i   the answer by the family m and the first failed check o, if the data end at place i
 --   envelope s       the answer for s: the first check that fails, or the family and the place where the data end
-use Rattle.std.specs.Prelude.{List, [], ◌∷◌, Bool, true, false, ℕ, ◌+◌, leb, length, take, drop}
+use Rattle.std.specs.Prelude.{List, [], ◌∷◌, Bool, false, ℕ, ◌+◌, leb, length, take, drop, is_some, Some, None, Err}
+use Rattle.std.specs.declared.option.Option.{Option}
+use Rattle.std.specs.declared.result.Result.{Result}
+use Rattle.refusal.specs.Refusal.{or_error}
 use Rattle.refusal.specs.Check.{Checks, first_failed}
+use Rattle.refusal.specs.declared.Check.{Check}
 use Rattle.refusal.specs.declared.Check.TheVariants.{F1, F2, F3, F4}
-use Rattle.refusal.specs.declared.MaybeCheck.{MaybeCheck}
-use Rattle.refusal.specs.declared.MaybeCheck.TheVariants as Maybe
 use Rattle.wire.specs.Number.{little}
 use Rattle.wire.specs.Equal.{same_bytes}
 use Rattle.wire.specs.Family.{tail, header_of}
-use Rattle.wire.specs.declared.MaybeKind.{MaybeKind}
-use Rattle.wire.specs.declared.MaybeKind.TheVariants as Found
+use Rattle.wire.specs.declared.Kind.{Kind}
 use Rattle.frame.specs.declared.envelope.Envelope.{Envelope}
-use Rattle.frame.specs.declared.envelope.Envelope.TheVariants.{Failed, Data}
 
-abbrev pub family : List ℕ → MaybeKind
+abbrev pub family : List ℕ → Option Kind
 family s = header_of (take 4 s)
 
 abbrev pub announced : List ℕ → ℕ
@@ -31,16 +30,12 @@ announced s = little (take 2 (drop 4 s))
 abbrev pub data_of : List ℕ → List ℕ
 data_of s = take (announced s) (drop 6 s)
 
-abbrev pub is_family : MaybeKind → Bool
-is_family (Found.Some k) = true
-is_family Found.None = false
-
-abbrev pub ends_as : MaybeKind → List ℕ → Bool
-ends_as (Found.Some k) t = same_bytes t (tail k)
-ends_as Found.None t = false
+abbrev pub ends_as : Option Kind → List ℕ → Bool
+ends_as (Some k) t = same_bytes t (tail k)
+ends_as None t = false
 
 abbrev pub f1 : List ℕ → Bool
-f1 s = is_family (family s)
+f1 s = is_some (family s)
 
 abbrev pub f2 : List ℕ → Bool
 f2 s = leb 6 (length s)
@@ -54,10 +49,9 @@ f4 s = ends_as (family s) (drop (6 + announced s) s)
 abbrev pub frame_checks : Checks
 frame_checks = (F1, f1) ∷ (F2, f2) ∷ (F3, f3) ∷ (F4, f4) ∷ []
 
-abbrev pub opened_as : MaybeKind → MaybeCheck → ℕ → Envelope
-opened_as (Found.Some k) Maybe.None i = Data k i
-opened_as (Found.Some k) (Maybe.Some c) i = Failed c
-opened_as Found.None m i = Failed F1
+abbrev pub opened_as : Option Kind → Option Check → ℕ → Result Envelope Check
+opened_as (Some k) o i = or_error o (record { kind = k; end = i })
+opened_as None o i = Err F1
 
-unfoldable pub envelope : List ℕ → Envelope
+unfoldable pub envelope : List ℕ → Result Envelope Check
 envelope s = opened_as (family s) (first_failed frame_checks s) (6 + announced s)

@@ -1,13 +1,14 @@
 -- The claims about the link's stream, in reading order, over the largest length `limit`, which document 01 sets to 54.
 -- src/lib.rt pins each of them in a contract.
 use Rattle.std.specs.Prelude.{◌≡◌, ◌≢◌, ◌↔◌, List, [], ◌∷◌, ◌++◌, true, ℕ, suc, ◌+◌, ◌-◌, ◌≤◌, ◌<◌, length, get_or, take, replicate}
+use Rattle.std.specs.Prelude.{option_map, IsOk}
+use Rattle.std.specs.Result.{result_ok}
 use Rattle.refusal.specs.Check.{Passes}
 use Rattle.wire.specs.Number.{little, le_bytes}
 use Rattle.wire.specs.Family.{header, tail, framed}
 use Rattle.wire.specs.declared.Kind.{Kind}
 use Rattle.wire.specs.declared.Kind.TheVariants.{Report}
 use Rattle.wire.specs.Bytes.{Every, Bytes}
-use Rattle.refusal.specs.declared.Outcome.TheVariants.{Ok}
 use Rattle.frame.specs.Frame.{body_checks, decoded, parsed_frame}
 use Rattle.framing.specs.Piece.{Piece, broken, spelled}
 use Rattle.framing.specs.Division.{Division, Divided, EndsAt, finished, cut}
@@ -103,14 +104,14 @@ DecodesWhole = (limit : ℕ) (s : List ℕ) (w : Whole limit s) → Bytes s
 -- A string decodes exactly if `Frame::parse` accepts it, and is delivered "as `Frame::parse` gives it, but with a
 -- payload's start counted in the parser's buffer", at byte 4.
 unfoldable pub DeliversParsed : Type 0
-DeliversParsed = (f : List ℕ) → ((decodes f ≡ true) ↔ ((parsed_frame f).outcome ≡ Ok))
-    × ((delivered f).0 ≡ counted_in (parsed_frame f).frame.kind 4 (parsed_frame f).frame)
+DeliversParsed = (f : List ℕ) → ((decodes f ≡ true) ↔ IsOk (parsed_frame f))
+    × ((delivered f).0 ≡ option_map (counted_in 4) (result_ok (parsed_frame f)))
 
 -- A whole frame delivers what its data are read as, and its payload's bytes. In a buffer that begins with the data, the
 -- payload starts at byte 4.
 unfoldable pub DeliversWhole : Type 0
 DeliversWhole = (limit : ℕ) (s : List ℕ) (w : Whole limit s) (r : List ℕ) → Bytes s
-    → let x = (decoded 4 w.kind w.held).frame in
+    → let x = result_ok (decoded 4 w.kind w.held) in
     ◌≡◌ {A = Answer} (delivered s) (x, payload_of x (w.held ++ r))
 
 -- Request 5 is about every frame with "lengths 2 to 54, none with F4 or FD among its data bytes", of either kind.

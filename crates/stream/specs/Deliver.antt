@@ -1,60 +1,43 @@
 -- What a call delivers, and what the counters count: document 01, "The division of a stream".
---   Answer            a frame, and the bytes of its payload
---   holds o           whether no check failed
+--   Answer            a frame, if there is one, and the bytes of its payload
 --   decodes f         whether the whole frame f passes every check: document 01's decodes
---   counted_in k i x   the frame x of the kind k; an acknowledgement's payload starts at place i
---   payload_of x s     the bytes of s where x has its payload, none if x is no acknowledgement; payload_by, by its kind
+--   counted_in i x    the frame x; an acknowledgement's payload starts at place i
+--   payload_of o s    the bytes of s where the frame in o has its payload, none if there is no acknowledgement
 --   delivered f       the answer that delivers the whole frame f; its payload's start is counted in the parser's buffer
 --   nothing           the answer "no frame"
---   is_frame k         whether an answer of the kind k has a frame
 --   Counter           the four counters
 --   adds c p          what the piece p adds to the counter c
-use Rattle.std.specs.Prelude.{List, [], Bool, true, false, not, ℕ, take, drop}
-use Rattle.refusal.specs.declared.MaybeCheck.{MaybeCheck}
-use Rattle.refusal.specs.declared.MaybeCheck.TheVariants as Maybe
-use Rattle.frame.specs.Frame.{starting_at, no_frame, checked_frame}
-use Rattle.frame.specs.declared.FrameKind.{FrameKind}
-use Rattle.frame.specs.declared.FrameKind.TheVariants as Is
+use Rattle.std.specs.Prelude.{List, [], Bool, not, ℕ, take, drop, option_map, Some, None, is_ok}
+use Rattle.std.specs.declared.option.Option.{Option}
+use Rattle.std.specs.Result.{result_ok}
+use Rattle.frame.specs.Frame.{starting_at, checked_frame}
 use Rattle.frame.specs.declared.Frame.{Frame}
+use Rattle.frame.specs.declared.Frame.TheVariants as Is
 use Rattle.framing.specs.Piece.{Piece}
 use Rattle.framing.specs.Tally.{resynced, lost, passed}
 
 abbrev pub Answer : Type 0
-Answer = Frame × List ℕ
-
-abbrev pub holds : MaybeCheck → Bool
-holds (Maybe.Some c) = false
-holds Maybe.None = true
+Answer = Option Frame × List ℕ
 
 unfoldable pub decodes : List ℕ → Bool
-decodes f = holds (checked_frame f).failed
+decodes f = is_ok (checked_frame f)
 
 -- "but with a payload's start counted in the parser's buffer"
-abbrev pub counted_in : FrameKind → ℕ → Frame → Frame
-counted_in Is.None i x = x
-counted_in Is.Report i x = x
-counted_in Is.Ack i x = record { kind = x.kind; report = x.report; ack = starting_at i x.ack }
+abbrev pub counted_in : ℕ → Frame → Frame
+counted_in i (Is.Report r) = Is.Report r
+counted_in i (Is.Ack a) = Is.Ack (starting_at i a)
 
-abbrev pub payload_by : FrameKind → Frame → List ℕ → List ℕ
-payload_by Is.None x s = []
-payload_by Is.Report x s = []
-payload_by Is.Ack x s = take x.ack.payload.len (drop x.ack.payload.start s)
-
-abbrev pub payload_of : Frame → List ℕ → List ℕ
-payload_of x s = payload_by x.kind x s
+abbrev pub payload_of : Option Frame → List ℕ → List ℕ
+payload_of None s = []
+payload_of (Some (Is.Report r)) s = []
+payload_of (Some (Is.Ack a)) s = take a.payload.len (drop a.payload.start s)
 
 -- "the frame that points 2 to 4 of the link read from the whole frame's bytes"; in the buffer a payload starts at 4
 unfoldable pub delivered : List ℕ → Answer
-delivered f = (counted_in (checked_frame f).frame.kind 4 (checked_frame f).frame, payload_of (checked_frame f).frame f)
+delivered f = let x = result_ok (checked_frame f) in (option_map (counted_in 4) x, payload_of x f)
 
 abbrev pub nothing : Answer
-nothing = (no_frame, [])
-
--- "A call delivers when its answer has a frame"
-abbrev pub is_frame : FrameKind → Bool
-is_frame Is.None = false
-is_frame Is.Report = true
-is_frame Is.Ack = true
+nothing = (None, [])
 
 pub data Counter : Type 0 where
   frames resyncs dropped malformed : Counter
