@@ -4,6 +4,7 @@ use mathlib.Core.List.{List, [], ◌∷◌}
 use mathlib.Core.Bool.{Bool, true, false, and-eq-true_iff}
 use Prim.Native.Nat.{ℕ}
 use lib.Dec.{eqb}
+use lib.Pointwise.{pointwise}
 use borrow.Author.Tests.{eqb-true, eq-eqb}
 use Rattle.wire.specs.Equal.{same_bytes}
 
@@ -22,6 +23,14 @@ same_sound (a ∷ s) (b ∷ t) e =
     let h : a ≡ b = eqb-true a b x.0 in
     let t : s ≡ t = same_sound s t x.1 in
     cc
+
+-- What std's comparison of two slices answers.
+pub same_pairwise : (s t : List ℕ) → pointwise eqb s t ≡ same_bytes s t
+unfolding same_bytes
+same_pairwise [] [] = refl
+same_pairwise [] (b ∷ t) = refl
+same_pairwise (a ∷ s) [] = refl
+same_pairwise (a ∷ s) (b ∷ t) = rw (same_pairwise s t)
 
 pub same_complete : (s t : List ℕ) → s ≡ t → same_bytes s t ≡ true
 same_complete s t e = rw e (same_refl t)

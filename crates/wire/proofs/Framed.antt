@@ -11,7 +11,7 @@ use Rattle.wire.specs.Number.{little, le_bytes}
 use Rattle.wire.specs.Family.{header, tail, header_of, framed}
 use Rattle.wire.specs.declared.Kind.{Kind}
 use Rattle.wire.specs.declared.Kind.TheVariants.{Report, Command}
-use Rattle.wire.specs.declared.MaybeKind.TheVariants.{Some}
+use Rattle.std.specs.Prelude.{Some}
 use Rattle.wire.proofs.Families.{header_length, header_sound, header_complete}
 use Rattle.wire.proofs.Bytes.{bytes_append, bytes_le_bytes, le_bytes_again, little_two}
 

@@ -1,9 +1,12 @@
 -- Numbers on the wire, at any width: all the bytes are there and make the number, or some are missing.
 use mathlib.Core.Path.{◌≡◌, refl, sym, ◌∙◌}
 use mathlib.Core.List.{List, [], ◌∷◌, ◌++◌}
-use mathlib.Core.Bool.{Bool, true, false, cond}
+use mathlib.Core.Bool.{Bool, true, cond}
 use Rattle.std.specs.Prelude.{Some, None}
 use Rattle.std.specs.declared.option.Option.{Option}
+use Rattle.std.specs.Option.{option_copied}
+use Rattle.std.specs.Slice.{IsItemAt}
+use denote.Ref.{Bor}
 use Prim.Native.Nat.{ℕ, ◌+◌, ◌*◌, ◌^◌, ◌≤◌, ◌<◌}
 use native.Mathlib.Nat.{pow-suc}
 use native.Mathlib.Omega.{arith}
@@ -92,6 +95,14 @@ read_long w s i n o x e q t =
     let inside = (read_some w s i (sym q ∙ e)).inside in
     let wanted = leb-true n (i + w) t in
     omega arith
+
+-- What std's `get` and `copied` answer for a byte.
+pub byte_got : (s : List ℕ) (i : ℕ) (o : Option (Bor ℕ)) → IsItemAt s i o → option_copied o ≡ byte_at s i
+byte_got s i (Some x) h =
+    let inside : i < length s = h.3.0 in
+    let held : x.now ≡ get_or s i 0 = h.4 (omega arith) 0 in
+    rw held (sym (read_there 1 s i (there_one s i inside)))
+byte_got s i None h = let past : length s ≤ i = h.3 in sym (read_missing 1 s i (omega arith))
 
 -- A byte that was read is the byte at that place.
 pub byte_is : (s : List ℕ) (i : ℕ) {x : ℕ} → byte_at s i ≡ Some x → x ≡ get_or s i 0

@@ -1,12 +1,13 @@
 -- Copies of a byte string into another, by how much of it fits.
 use mathlib.Core.Path.{◌≡◌, ◌∙◌}
-use mathlib.Core.List.{List, [], ◌∷◌, append-nil}
+use mathlib.Core.List.{List, [], ◌∷◌, ◌++◌, append-nil, append_assoc}
 use Prim.Native.Nat.{ℕ, zero, suc, ◌+◌, ◌-◌, ◌≤◌, ◌<◌, min}
 use native.Mathlib.Nat.{zero-add, sub-zero}
 use native.Mathlib.Numerals.{add-one}
 use native.Mathlib.Omega.{arith}
 use lib.ListN.{length, take, drop, set, get_or, replicate, length-replicate, drop_of_length-le}
 use lib.Seq.{take-nil, drop-nil, paste-zero, paste-suc}
+use borrow.Rule.Slice.PartMut.{post_of, Post-is}
 use Rattle.wire.specs.Prefix.{over, pasted, prefixed, padded}
 
 min_suc : (m n : ℕ) → min (suc m) (suc n) ≡ suc (min m n)
@@ -60,6 +61,25 @@ drop-replicate (suc m) (suc n) = let z : suc n - suc m ≡ n - m = omega arith i
 pub prefixed_zeros : (n : ℕ) (s : List ℕ) → prefixed (replicate n 0) s ≡ padded n s
 unfolding prefixed padded
 prefixed_zeros n s = rw (length-replicate {A = ℕ} n 0, drop-replicate (length s) n)
+
+pasted_whole : (d : List ℕ) (i : ℕ) (s : List ℕ) (n : ℕ) → n ≡ min (length s) (length d - i)
+    → (take i d ++ take n s) ++ drop (i + n) d ≡ pasted d i s
+unfolding over
+pasted_whole d i s n e = pasted_over d i s n (omega arith)
+
+-- The front of a copy, and what is left of the string after it.
+pub pasted_copied : (d : List ℕ) (i : ℕ) (s : List ℕ) (n : ℕ) → n ≡ min (length s) (length d - i)
+    → take i d ++ (take n s ++ post_of i (i + n - i) d) ≡ pasted d i s
+pasted_copied d i s n e =
+    rw (Post-is i (i + n) d (omega arith), ← append_assoc (take i d) (take n s) (drop (i + n) d)) (pasted_whole d i s n e)
+
+pub padded_copied : (n : ℕ) (s : List ℕ) (m : ℕ) → m ≡ min (length s) n
+    → take m s ++ drop m (replicate n 0) ≡ padded n s
+unfolding padded
+padded_copied n s m e =
+    let q : m ≡ min n (length s) = omega arith in
+    let z : n - min n (length s) ≡ n - length s = omega arith in
+    rw (q, take_min n s, drop-replicate (min n (length s)) n, z)
 
 -- A copy that fills the whole string that it is made into.
 pub prefixed_full : (d s : List ℕ) → length d ≤ length s → prefixed d s ≡ take (length d) s

@@ -16,11 +16,11 @@ pub fn bytes_eq(a: &[u8], b: &[u8]) -> bool
 pub fn copy_at(dst: &mut [u8], at: usize, src: &[u8])
     ensures copied { dst.new ≡ pasted dst.old at src.now }
 {
-    let Some(rest) = dst.get_mut(at..) else {
+    if dst.len() < at {
         return;
-    };
-    let count = rest.len().min(src.len());
-    rest[..count].copy_from_slice(&src[..count]);
+    }
+    let count = src.len().min(dst.len() - at);
+    dst[at..at + count].copy_from_slice(&src[..count]);
 }
 
 // Copies as much of `src` as fits into the front of `dst`.

@@ -31,6 +31,7 @@ pub fn le32(bytes: &[u8], at: usize) -> Option<u32>
 }
 
 // Returns the counter after `by` more; it stops at the largest number of 64 bits.
+#[tactic(auto, unfolding(crate::specs::Counter::bumped))]
 pub fn bump(counter: u64, by: usize) -> u64
     ensures counted { result ≡ bumped counter by }
 {
