@@ -1,5 +1,5 @@
 -- A target state and its byte.
-use mathlib.Core.Path.{◌≡◌, refl, sym, ◌∙◌}
+use mathlib.Core.Path.{◌≡◌, refl}
 use mathlib.Core.Bool.{false}
 use Prim.Native.Nat.{ℕ, zero, suc, ◌%◌, ◌≤◌}
 use native.Mathlib.Omega.{arith}
@@ -10,13 +10,6 @@ use Rattle.target_state.specs.declared.TargetState.{TargetState}
 use Rattle.target_state.specs.declared.TargetState.TheVariants.{None, Moving, Stationary, Both}
 use Rattle.target_state.specs.declared.TargetState.TheVariants.{CalibrationRunning, CalibrationDone}
 use Rattle.target_state.specs.declared.TargetState.TheVariants.{CalibrationFailed}
-
--- Lowest bits other than 0, 1 and 2 mean both targets.
-bits_both : (n : ℕ) → 3 ≤ n → by_bits n ≡ Both
-bits_both zero h = absurd (omega arith)
-bits_both (suc zero) h = absurd (omega arith)
-bits_both (suc (suc zero)) h = absurd (omega arith)
-bits_both (suc (suc (suc n))) h = refl
 
 -- For every byte but the three of calibration, the two lowest bits decide.
 state_bits : (b : ℕ) → (Calibrating b → ⊥) → state_of b ≡ by_bits (b % 4)
@@ -79,22 +72,3 @@ calibration b = record {
   unseen = λ h. let off = no_target (state_of b) (omega (arith, byte_kept b h.1)) in rw (off.0, off.1);
   old = state_bits b;
 }
-
--- What the contracts of the two conversions promise.
-abbrev Decoded : ℕ → TargetState → Type 0
-Decoded b t = record { decoded : t ≡ state_of b; kept : b ≤ state_max → byte_of t ≡ b; calibration : Calibration b t }
-
-abbrev Encoded : TargetState → ℕ → Type 0
-Encoded t b = record { encoded : b ≡ byte_of t; kept : (b ≤ state_max) × (state_of b ≡ t) }
-
-pub read_as : (b : ℕ) {t : TargetState} → t ≡ state_of b → Decoded b t
-read_as b e = record { decoded = e; kept = rw e (λ h. byte_kept b h); calibration = rw e (calibration b) }
-
-pub read_bits : (b : ℕ) {t : TargetState} → (Calibrating b → ⊥) → t ≡ by_bits (b % 4) → Decoded b t
-read_bits b h e = read_as b (e ∙ sym (state_bits b h))
-
-pub read_both : (b : ℕ) → (Calibrating b → ⊥) → 3 ≤ b % 4 → Decoded b Both
-read_both b h m = read_bits b h (sym (bits_both (b % 4) m))
-
-pub sent_as_lem : {t : TargetState} {b : ℕ} → b ≡ byte_of t → Encoded t b
-sent_as_lem {t} e = record { encoded = e; kept = rw e (byte_most t, state_byte_lem t) }

@@ -8,7 +8,7 @@ ghost use Rattle.target_state.specs.State.{state_of, byte_of, state_max, moving_
 ghost use Rattle.target_state.specs.Claims.{Calibration};
 
 // The targets that the module sees, or the state of its background calibration: the state byte of a report.
-#[derive(Clone, Copy)]
+#[derive(Clone, Copy, PartialEq, Eq)]
 pub enum TargetState {
     // No target.
     None,
@@ -29,6 +29,7 @@ pub enum TargetState {
 impl TargetState {
     // Decodes the state byte: 4, 5 and 6 are states of their own; of any other byte the two lowest bits count. A byte
     // up to 6 is what `to_byte` gives for its state.
+    #[tactic(auto, unfolding(crate::specs::State::state_of))]
     pub fn from_byte(byte: u8) -> Self
         ensures decoded { result ≡ state_of byte }
         ensures kept { byte ≤ state_max → byte_of result ≡ byte }
@@ -48,6 +49,7 @@ impl TargetState {
     }
 
     // Returns the byte that the module sends for this state, which is decoded as the state.
+    #[tactic(auto, unfolding(crate::specs::State::state_of))]
     pub fn to_byte(self) -> u8
         ensures encoded { result ≡ byte_of self }
         ensures kept { (result ≤ state_max) × (state_of result ≡ self) }
@@ -67,30 +69,14 @@ impl TargetState {
     pub fn moving(self) -> bool
         ensures told { result ≡ moving_of self }
     {
-        match self {
-            TargetState::None => false,
-            TargetState::Moving => true,
-            TargetState::Stationary => false,
-            TargetState::Both => true,
-            TargetState::CalibrationRunning => false,
-            TargetState::CalibrationDone => false,
-            TargetState::CalibrationFailed => false,
-        }
+        matches!(self, TargetState::Moving | TargetState::Both)
     }
 
     // Tests whether a stationary target is present.
     pub fn stationary(self) -> bool
         ensures told { result ≡ stationary_of self }
     {
-        match self {
-            TargetState::None => false,
-            TargetState::Moving => false,
-            TargetState::Stationary => true,
-            TargetState::Both => true,
-            TargetState::CalibrationRunning => false,
-            TargetState::CalibrationDone => false,
-            TargetState::CalibrationFailed => false,
-        }
+        matches!(self, TargetState::Stationary | TargetState::Both)
     }
 
     // Tests whether any target is present.
