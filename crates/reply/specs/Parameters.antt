@@ -4,19 +4,13 @@
 --   parameters_fits p       whether the payload p is readable
 --   parameters_of p         the value that the payload p holds
 --   parameters_reply        the reply
---   no_parameters           every field 0
---   parameters_as o v       the answer for the outcome o: the value v, or the refusal with every field 0
---   returned_parameters r   what the answer r returns: the number and the value
+--   no_parameters           every field 0, which is returned beside a refusal
 --   valid_gates v           how many gates the value v has, at most 9
 use Rattle.std.specs.Prelude.{List, Bool, ◌&&◌, ℕ, ◌+◌, min, leb, eqb, length, get_or, take, drop, replicate}
 use Rattle.wire.specs.Number.{little}
 use Rattle.wire.specs.Prefix.{padded}
-use Rattle.refusal.specs.Refusal.{Returned, beside}
-use Rattle.refusal.specs.declared.Outcome.{Outcome}
-use Rattle.refusal.specs.declared.Outcome.TheVariants.{Ok, Err}
 use Rattle.reply.specs.Reply.{Reply}
 use Rattle.reply.specs.declared.parameters.Parameters.{Parameters}
-use Rattle.reply.specs.declared.parameters.ParametersResult.{ParametersResult}
 
 -- "`parameters` wants AA, `max_gate` 0 to 8, `max_moving_gate` and `max_stationary_gate` (not range-checked),
 -- `max_gate` plus one moving sensitivities, as many stationary, and the seconds, two bytes"
@@ -55,13 +49,6 @@ no_parameters = record {
   stationary_sensitivity = replicate 9 0;
   no_one_secs = 0;
 }
-
-abbrev pub parameters_as : Outcome → Parameters → ParametersResult
-parameters_as Ok v = record { outcome = Ok; parameters = v }
-parameters_as (Err e) v = record { outcome = Err e; parameters = no_parameters }
-
-abbrev pub returned_parameters : ParametersResult → Returned Parameters
-returned_parameters r = beside r.outcome r.parameters
 
 -- "the array and its valid count, at most 9"
 abbrev pub valid_gates : Parameters → ℕ

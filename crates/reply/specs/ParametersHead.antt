@@ -2,10 +2,9 @@
 --   head_fits p   whether p has them, the first is AA, and the highest gate is 0 to 8
 --   head_of p     the three bytes after the first
 --   head_in p     the same, if the head fits
-use Rattle.std.specs.Prelude.{List, Bool, cond, ◌&&◌, ℕ, leb, eqb, length, get_or}
+use Rattle.std.specs.Prelude.{List, Bool, cond, ◌&&◌, ℕ, leb, eqb, length, get_or, Some, None}
+use Rattle.std.specs.declared.option.Option.{Option}
 use Rattle.reply.specs.declared.parameters_head.ParametersHead.{ParametersHead}
-use Rattle.reply.specs.declared.parameters_head.MaybeParametersHead.{MaybeParametersHead}
-use Rattle.reply.specs.declared.parameters_head.MaybeParametersHead.TheVariants.{Some, None}
 
 -- "`parameters` wants AA, `max_gate` 0 to 8, `max_moving_gate` and `max_stationary_gate` (not range-checked)"
 abbrev pub head_fits : List ℕ → Bool
@@ -18,5 +17,5 @@ head_of p = record {
   max_stationary_gate = get_or p 3 0;
 }
 
-unfoldable pub head_in : List ℕ → MaybeParametersHead
+unfoldable pub head_in : List ℕ → Option ParametersHead
 head_in p = cond (head_fits p) (Some (head_of p)) None

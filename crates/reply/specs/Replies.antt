@@ -1,23 +1,14 @@
 -- Three of the four replies of document 01, point 3; Parameters.antt has the fourth. For each, in this order: the value
--- that a payload p holds, the reply, the value with every field 0, the answer for an outcome o and a value v, and what
--- the answer r returns, with every field 0 beside a refusal.
---   enable_config_of p, enable_config_reply, no_enable_config, enable_config_as o v, returned_enable_config r
---   firmware_of p, firmware_reply, no_firmware, firmware_as o v, returned_firmware r
---   mac_of p, mac_reply, no_mac, mac_as o v, returned_mac r
+-- that a payload p holds, the reply, and the value with every field 0, which is returned beside a refusal.
+--   enable_config_of p, enable_config_reply, no_enable_config
+--   firmware_of p, firmware_reply, no_firmware
+--   mac_of p, mac_reply, no_mac
 use Rattle.std.specs.Prelude.{List, ℕ, take, drop, replicate}
 use Rattle.wire.specs.Number.{little}
-use Rattle.refusal.specs.Refusal.{Returned, accepted, refused, beside}
-use Rattle.refusal.specs.declared.Outcome.{Outcome}
-use Rattle.refusal.specs.declared.Outcome.TheVariants.{Ok, Err}
 use Rattle.reply.specs.Reply.{Reply, sized}
 use Rattle.reply.specs.declared.EnableConfig.{EnableConfig}
-use Rattle.reply.specs.declared.EnableConfigResult.{EnableConfigResult}
-use Rattle.reply.specs.declared.EnableConfigResult.TheVariants as Enabled
 use Rattle.reply.specs.declared.FirmwareVersion.{FirmwareVersion}
-use Rattle.reply.specs.declared.FirmwareVersionResult.{FirmwareVersionResult}
-use Rattle.reply.specs.declared.FirmwareVersionResult.TheVariants as Firmware
 use Rattle.reply.specs.declared.Mac.{Mac}
-use Rattle.reply.specs.declared.MacResult.{MacResult}
 
 -- "`enable_config` is version and buffer size, two bytes each"
 abbrev pub enable_config_of : List ℕ → EnableConfig
@@ -28,14 +19,6 @@ enable_config_reply = sized 0x00FF 4 enable_config_of
 
 abbrev pub no_enable_config : EnableConfig
 no_enable_config = record { protocol_version = 0; buffer_size = 0 }
-
-abbrev pub enable_config_as : Outcome → EnableConfig → EnableConfigResult
-enable_config_as Ok v = Enabled.Ok v
-enable_config_as (Err e) v = Enabled.Err e
-
-abbrev pub returned_enable_config : EnableConfigResult → Returned EnableConfig
-returned_enable_config (Enabled.Ok v) = accepted v
-returned_enable_config (Enabled.Err e) = refused no_enable_config e
 
 -- "`firmware_version` is type and major, two each, and minor, four"
 abbrev pub firmware_of : List ℕ → FirmwareVersion
@@ -51,14 +34,6 @@ firmware_reply = sized 0x00A0 8 firmware_of
 abbrev pub no_firmware : FirmwareVersion
 no_firmware = record { firmware_type = 0; major = 0; minor = 0 }
 
-abbrev pub firmware_as : Outcome → FirmwareVersion → FirmwareVersionResult
-firmware_as Ok v = Firmware.Ok v
-firmware_as (Err e) v = Firmware.Err e
-
-abbrev pub returned_firmware : FirmwareVersionResult → Returned FirmwareVersion
-returned_firmware (Firmware.Ok v) = accepted v
-returned_firmware (Firmware.Err e) = refused no_firmware e
-
 -- "`mac` is six bytes"
 abbrev pub mac_of : List ℕ → Mac
 mac_of p = record { 0 = take 6 p }
@@ -68,10 +43,3 @@ mac_reply = sized 0x00A5 6 mac_of
 
 abbrev pub no_mac : Mac
 no_mac = record { 0 = replicate 6 0 }
-
-abbrev pub mac_as : Outcome → Mac → MacResult
-mac_as Ok v = record { outcome = Ok; mac = v }
-mac_as (Err e) v = record { outcome = Err e; mac = no_mac }
-
-abbrev pub returned_mac : MacResult → Returned Mac
-returned_mac r = beside r.outcome r.mac

@@ -1,13 +1,12 @@
 // The reply with the parameters: reading it, and its accessors.
 ghost use Rattle.std.specs.Prelude.{◌≡◌};
 ghost use Rattle.wire.specs.Gate.{gate_values};
-ghost use Rattle.refusal.specs.declared.Outcome.TheVariants as Outcome;
 ghost use Rattle.reply.specs.Reply.{reply_as};
-ghost use Rattle.reply.specs.Parameters.{parameters_reply, parameters_as, no_parameters, valid_gates};
+ghost use Rattle.reply.specs.Parameters.{parameters_reply, valid_gates};
 
-use crate::parameters_head::{MaybeParametersHead, ParametersHead};
-use refusal::{Error, Outcome};
-use wire::{GATES, GateValues, MaybeU16, gate_array, gate_values, le16, min};
+use crate::parameters_head::ParametersHead;
+use refusal::Error;
+use wire::{GATES, GateValues, gate_values, le16, zero_padded};
 
 // Where the moving sensitivities start in a parameters payload.
 const MOVING_AT: usize = 4;
@@ -27,36 +26,12 @@ pub struct Parameters {
     pub no_one_secs: u16,
 }
 
-// The parameters; beside a refusal every field of them is 0.
-#[derive(Clone, Copy)]
-pub struct ParametersResult {
-    pub outcome: Outcome,
-    pub parameters: Parameters,
-}
-
-// Returns the refusal, with every field of the parameters 0.
-pub fn refused_parameters(error: Error) -> ParametersResult
-    ensures made { result ≡ parameters_as (Outcome.Err error) no_parameters }
-{
-    ParametersResult {
-        outcome: Outcome::Err(error),
-        parameters: Parameters {
-            max_gate: 0,
-            max_moving_gate: 0,
-            max_stationary_gate: 0,
-            moving_sensitivity: [0; GATES],
-            stationary_sensitivity: [0; GATES],
-            no_one_secs: 0,
-        },
-    }
-}
-
 impl Parameters {
     // Returns the number of gates: `max_gate` plus one, at most `GATES` whatever the field holds.
     pub fn gates(self) -> usize
         ensures counted { result ≡ valid_gates self }
     {
-        min(self.max_gate as usize + 1, GATES)
+        (self.max_gate as usize + 1).min(GATES)
     }
 
     // Returns the valid moving sensitivities, gate 0 first.
@@ -77,29 +52,24 @@ impl Parameters {
 }
 
 // Reads a payload that answers `READ_PARAMETERS`: if its seconds are present, so are the sensitivities before them.
-pub fn read_parameters(payload: &[u8]) -> ParametersResult
-    ensures read { result ≡ reply_as parameters_as parameters_reply payload.now }
+pub fn read_parameters(payload: &[u8]) -> Result<Parameters, Error>
+    ensures read { result ≡ reply_as parameters_reply payload.now }
 {
-    let MaybeParametersHead::Some(head) = ParametersHead::read(payload) else {
-        return refused_parameters(Error::InvalidFormat);
+    let Some(head) = ParametersHead::read(payload) else {
+        return Err(Error::InvalidFormat);
     };
     let gates = head.max_gate as usize + 1;
     let stationary_at = MOVING_AT + gates;
     let seconds_at = stationary_at + gates;
-    let MaybeU16::Some(no_one_secs) = le16(payload, seconds_at) else {
-        return refused_parameters(Error::InvalidFormat);
+    let Some(no_one_secs) = le16(payload, seconds_at) else {
+        return Err(Error::InvalidFormat);
     };
-    let moving_sensitivity = gate_array(&payload[MOVING_AT..stationary_at]);
-    let stationary_sensitivity = gate_array(&payload[stationary_at..seconds_at]);
-    ParametersResult {
-        outcome: Outcome::Ok,
-        parameters: Parameters {
-            max_gate: head.max_gate,
-            max_moving_gate: head.max_moving_gate,
-            max_stationary_gate: head.max_stationary_gate,
-            moving_sensitivity,
-            stationary_sensitivity,
-            no_one_secs,
-        },
-    }
+    Ok(Parameters {
+        max_gate: head.max_gate,
+        max_moving_gate: head.max_moving_gate,
+        max_stationary_gate: head.max_stationary_gate,
+        moving_sensitivity: zero_padded(&payload[MOVING_AT..stationary_at]),
+        stationary_sensitivity: zero_padded(&payload[stationary_at..seconds_at]),
+        no_one_secs,
+    })
 }
