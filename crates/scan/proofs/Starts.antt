@@ -3,7 +3,7 @@ use mathlib.Core.Path.{◌≡◌, ap}
 use Prim.Native.Nat.{ℕ}
 use Rattle.wire.specs.Family.{starting_with}
 use Rattle.wire.specs.declared.Kind.{Kind}
-use Rattle.wire.specs.declared.MaybeKind.TheVariants.{Some, None}
+use Rattle.std.specs.Prelude.{Some, None}
 use Rattle.scan.specs.Scan.{at, hunting}
 use Rattle.scan.specs.declared.State.TheVariants.{Header}
 use Rattle.scan.specs.Start.{continued, dropping, start_as, start_of}

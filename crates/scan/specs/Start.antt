@@ -1,4 +1,5 @@
 -- What the counters count, and a byte tried as the first of a header.
+--   frame_ended k n   that a frame of the family k with n data bytes ended
 --   continued c st   the step that leaves the scan c and the counters st, and ends no frame
 --   dropping st n    the counters after n more bytes were dropped
 --   abandoned st n   the counters after a broken start of n bytes
@@ -6,21 +7,24 @@
 --   start_of st b     the step of the byte b, tried as the first of a header
 --   counted b st     the counters after a whole frame; b says whether it decodes
 --   taking_of s n     the step s as the outcome of n bytes, its byte the last
-use Rattle.std.specs.Prelude.{Bool, true, false, ℕ}
+use Rattle.std.specs.Prelude.{Bool, true, false, ℕ, Some, None}
+use Rattle.std.specs.declared.option.Option.{Option}
 use Rattle.wire.specs.Counter.{bumped}
 use Rattle.wire.specs.Family.{starting_with}
-use Rattle.wire.specs.declared.MaybeKind.{MaybeKind}
-use Rattle.wire.specs.declared.MaybeKind.TheVariants.{Some, None}
+use Rattle.wire.specs.declared.Kind.{Kind}
 use Rattle.scan.specs.Scan.{at, hunting}
 use Rattle.scan.specs.declared.State.TheVariants.{Header}
 use Rattle.scan.specs.declared.Scan.{Scan}
 use Rattle.scan.specs.declared.stats.Stats.{Stats}
-use Rattle.scan.specs.declared.stats.Ended.TheVariants.{Nothing}
+use Rattle.scan.specs.declared.stats.Ended.{Ended}
 use Rattle.scan.specs.declared.stats.Stepped.{Stepped}
 use Rattle.scan.specs.declared.stats.Scanned.{Scanned}
 
+abbrev pub frame_ended : Kind → ℕ → Option Ended
+frame_ended k n = Some (record { kind = k; len = n })
+
 abbrev pub continued : Scan → Stats → Stepped
-continued c st = record { scan = c; stats = st; ended = Nothing }
+continued c st = record { scan = c; stats = st; ended = None }
 
 abbrev pub dropping : Stats → ℕ → Stats
 dropping st n = record {
@@ -39,7 +43,7 @@ abandoned st n = record {
   malformed = st.malformed;
 }
 
-abbrev pub start_as : Stats → MaybeKind → Stepped
+abbrev pub start_as : Stats → Option Kind → Stepped
 start_as st (Some k) = continued (at Header k 1 0 0) st
 start_as st None = continued hunting (dropping st 1)
 

@@ -17,7 +17,7 @@ use stream::in_range;
 use wire::Kind;
 
 // Where in a frame the parser is.
-#[derive(Clone, Copy)]
+#[derive(Clone, Copy, PartialEq, Eq)]
 pub enum State {
     // Matching header bytes; `matched` counts them.
     Header,
@@ -44,8 +44,7 @@ impl Scan {
     fn well_formed(self) -> bool
         ensures told { result ≡ well_formed link_limit self }
     {
-        let state = self.state;
-        match state {
+        match self.state {
             State::Header => self.matched <= 3,
             State::Len => self.matched <= 1
                 && (self.len <= 255 && (self.matched == 1 || self.len == 0)),
@@ -88,8 +87,7 @@ fn progress(scan: Scan) -> usize
     requires { well_formed link_limit scan ≡ true }
     ensures told { result ≡ unfinished_at scan }
 {
-    let state = scan.state;
-    match state {
+    match scan.state {
         State::Header => scan.matched,
         State::Len => 4 + scan.matched,
         State::Data => 6 + scan.pos,

@@ -15,27 +15,27 @@ pub struct Stats {
     pub malformed: u64,
 }
 
-// Whether a byte ended a frame: its kind and the length of its data, which are at the front of the buffer.
+// A frame that a byte ended: its kind and the length of its data, which are at the front of the buffer.
 #[derive(Clone, Copy)]
-pub enum Ended {
-    Frame(Kind, usize),
-    Nothing,
+pub struct Ended {
+    pub kind: Kind,
+    pub len: usize,
 }
 
-// The scan and the counters after a byte, beside the buffer, and whether it ended a frame.
+// The scan and the counters after a byte, beside the buffer, and the frame that it ended, if any.
 #[derive(Clone, Copy)]
 pub struct Stepped {
     pub scan: Scan,
     pub stats: Stats,
-    pub ended: Ended,
+    pub ended: Option<Ended>,
 }
 
-// The scan and the counters after a slice, beside the buffer, whether it ended a frame, and how many of its bytes were
-// taken.
+// The scan and the counters after a slice, beside the buffer, the frame that it ended, if any, and how many of its bytes
+// were taken.
 #[derive(Clone, Copy)]
 pub struct Scanned {
     pub scan: Scan,
     pub stats: Stats,
-    pub ended: Ended,
+    pub ended: Option<Ended>,
     pub taken: usize,
 }

@@ -20,11 +20,10 @@ use Rattle.wire.proofs.Families.{header_length, tail_length}
 use Rattle.stream.proofs.Steps.{data_opens, data_not_whole, tail_opens, tail_not_whole, tail-whole}
 use Rattle.scan.specs.Scan.{at, hunting, well_formed}
 use Rattle.scan.specs.Stands.{pending_of}
-use Rattle.scan.specs.Start.{continued, abandoned, start_of}
+use Rattle.scan.specs.Start.{frame_ended, continued, abandoned, start_of}
 use Rattle.scan.specs.declared.State.TheVariants.{Data, Tail}
 use Rattle.scan.specs.declared.Scan.{Scan}
 use Rattle.scan.specs.declared.stats.Stats.{Stats}
-use Rattle.scan.specs.declared.stats.Ended.TheVariants.{Frame}
 use Rattle.step.proofs.Follow.{Capped, Follows, follows_on, follows_end, follows_break}
 use Rattle.stream.proofs.Words.{range_true}
 use Rattle.step.proofs.HeadSteps.{word_grows}
@@ -107,7 +106,7 @@ module _ (limit : ℕ) (st : Stats) (cap : Capped st) (buf : List ℕ) (b : ℕ)
           (word_grows (tail k) m b (omega (arith, tail_length k)) e)
 
       tail_on : b ≡ get_or (tail k) m 0 → (x : Bool) → eqb m 3 ≡ x
-          → Follows limit (cond x (record { scan = hunting; stats = st; ended = Frame k n })
+          → Follows limit (cond x (record { scan = hunting; stats = st; ended = frame_ended k n })
           (continued (at Tail k (m + 1) n n) st)) st buf (Scanner.step (link limit) whole_data_came b)
       unfolding well_formed pending_of
       tail_on e true q =
@@ -136,7 +135,7 @@ module _ (limit : ℕ) (st : Stats) (cap : Capped st) (buf : List ℕ) (b : ℕ)
       )
 
       pub tail_as : (x : Bool) → eqb b (get_or (tail k) m 0) ≡ x
-          → Follows limit (cond x (cond (eqb m 3) (record { scan = hunting; stats = st; ended = Frame k n })
+          → Follows limit (cond x (cond (eqb m 3) (record { scan = hunting; stats = st; ended = frame_ended k n })
           (continued (at Tail k (m + 1) n n) st)) (start_of (abandoned st (6 + n + m)) b)) st buf
           (Scanner.step (link limit) whole_data_came b)
       tail_as true e = tail_on (eqb-true b _ e) (eqb m 3) refl

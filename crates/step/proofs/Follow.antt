@@ -3,18 +3,19 @@
 use mathlib.Core.Path.{◌≡◌, refl, sym, ap, ◌∙◌}
 use mathlib.Core.List.{List, [], ◌∷◌, ◌++◌}
 use mathlib.Core.Bool.{true, false}
-use mathlib.Core.Option.{Option, none, some}
+use mathlib.Core.Option as Of
+use mathlib.Core.Option.{none, some}
 use Prim.Native.Nat.{ℕ, ◌≤◌, ◌<◌}
 use native.Mathlib.Omega.{arith}
 use lib.ListN.{length, take, get_or}
+use Rattle.std.specs.Prelude.{Some, None}
+use Rattle.std.specs.declared.option.Option.{Option}
 use Rattle.wire.specs.Number.{le_bytes}
 use Rattle.wire.specs.Counter.{counter_max, bumped}
 use Rattle.wire.proofs.Counters.{bumped_append, bumped_nil, bumped_most}
 use Rattle.wire.specs.Family.{header, tail, starting_with}
 use Rattle.wire.specs.declared.Kind.{Kind}
 use Rattle.wire.specs.declared.Kind.TheVariants.{Report, Command}
-use Rattle.wire.specs.declared.MaybeKind.{MaybeKind}
-use Rattle.wire.specs.declared.MaybeKind.TheVariants.{Some, None}
 use Rattle.framing.specs.Tally.{sum, resynced, lost}
 use Rattle.framing.proofs.Scanner as Scanner
 use Rattle.framing.proofs.View.{step_whole, step_on, step_over}
@@ -23,12 +24,11 @@ use Rattle.stream.proofs.Link.{link, is_open, not_open, is_whole, not_whole}
 use Rattle.stream.proofs.Steps.{starting_sound, start_opens, start_strays, start_not_whole}
 use Rattle.scan.specs.Scan.{at, hunting, well_formed}
 use Rattle.scan.specs.Stands.{pending_of}
-use Rattle.scan.specs.Start.{continued, abandoned, start_as, start_of}
+use Rattle.scan.specs.Start.{frame_ended, continued, abandoned, start_as, start_of}
 use Rattle.scan.specs.declared.State.TheVariants.{Header}
 use Rattle.scan.specs.declared.Scan.{Scan}
 use Rattle.scan.specs.declared.stats.Stats.{Stats}
 use Rattle.scan.specs.declared.stats.Ended.{Ended}
-use Rattle.scan.specs.declared.stats.Ended.TheVariants.{Frame, Nothing}
 use Rattle.scan.specs.declared.stats.Stepped.{Stepped}
 
 -- No counter is above its maximum. The counters' type ensures this.
@@ -39,14 +39,14 @@ pub record Capped (st : Stats) : Type 0 where
   pub malformed : st.malformed ≤ counter_max
 
 -- The bytes of the whole frame that ended, whose data are at the front of the buffer.
-abbrev pub ended_as : Ended → List ℕ → Option (List ℕ)
-ended_as (Frame k n) buf = some (header k ++ (le_bytes 2 n ++ (take n buf ++ tail k)))
-ended_as Nothing buf = none
+abbrev pub ended_as : Option Ended → List ℕ → Of.Option (List ℕ)
+ended_as (Some e) buf = some (header e.kind ++ (le_bytes 2 e.len ++ (take e.len buf ++ tail e.kind)))
+ended_as None buf = none
 
 -- Its length is at most `limit`.
-abbrev pub Fits : ℕ → Ended → Type 0
-Fits limit (Frame k n) = n ≤ limit
-Fits limit Nothing = Unit {0}
+abbrev pub Fits : ℕ → Option Ended → Type 0
+Fits limit (Some e) = e.len ≤ limit
+Fits limit None = Unit {0}
 
 -- The step r, from the counters st, leaving the buffer buf, does what the scanner's step x does.
 pub record Follows (limit : ℕ) (r : Stepped) (st : Stats) (buf : List ℕ) (x : Scanner.Step) : Type 0 where
@@ -78,7 +78,7 @@ module _ (limit : ℕ) (buf : List ℕ) where
   -- The byte ends a frame.
   pub follows_end : (k : Kind) (n : ℕ) (st : Stats) (p : List ℕ) (b : ℕ) → Capped st → n ≤ limit
       → header k ++ (le_bytes 2 n ++ (take n buf ++ tail k)) ≡ p ++ (b ∷ []) → wholes limit (p ++ (b ∷ [])) ≡ true
-      → Follows limit (record { scan = hunting; stats = st; ended = Frame k n }) st buf (Scanner.step (link limit) p b)
+      → Follows limit (record { scan = hunting; stats = st; ended = frame_ended k n }) st buf (Scanner.step (link limit) p b)
   unfolding well_formed pending_of
   follows_end k n st p b cap l e w = rw (step_whole (link limit) p b (is_whole limit _ w)) (record {
     order = refl;
@@ -96,7 +96,7 @@ module _ (limit : ℕ) (buf : List ℕ) where
   first_pending Report b e = rw e
   first_pending Command b e = rw e
 
-  start_as_lem : (st : Stats) (b : ℕ) (o : MaybeKind) → starting_with b ≡ o → Capped st
+  start_as_lem : (st : Stats) (b : ℕ) (o : Option Kind) → starting_with b ≡ o → Capped st
       → Follows limit (start_as st o) st buf (Scanner.step (link limit) [] b)
   unfolding well_formed pending_of
   start_as_lem st b (Some k) e cap = follows_on (at Header k 1 0 0) st [] b cap refl

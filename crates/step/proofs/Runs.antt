@@ -7,16 +7,16 @@ use native.Mathlib.Numerals.{add-one}
 use native.Mathlib.Omega.{arith}
 use lib.ListN.{length, drop, get_or, drop_of_length-le}
 use lib.Seq.{drop-cons}
+use Rattle.std.specs.Prelude.{Some, None}
+use Rattle.std.specs.declared.option.Option.{Option}
 use Rattle.scan.specs.Scan.{well_formed}
 use Rattle.step.specs.Step.{step_of, stored}
 use Rattle.step.specs.Slice.{Run, run_at, one_more_taken, then_run, run_of}
 use Rattle.step.specs.Phase.{after, run_from, on_from, PartialRun}
 use Rattle.scan.specs.Start.{taking_of}
-use Rattle.wire.specs.declared.Kind.{Kind}
 use Rattle.scan.specs.declared.Scan.{Scan}
 use Rattle.scan.specs.declared.stats.Stats.{Stats}
 use Rattle.scan.specs.declared.stats.Ended.{Ended}
-use Rattle.scan.specs.declared.stats.Ended.TheVariants.{Frame, Nothing}
 use Rattle.scan.specs.declared.stats.Stepped.{Stepped}
 use Rattle.scan.specs.declared.stats.Scanned.{Scanned}
 use Rattle.step.proofs.StepOrder.{step_order}
@@ -34,9 +34,9 @@ module _ (limit : ℕ) (c : Scan) (st : Stats) (buf bs : List ℕ) where
   run_start = ap (counting (run_of limit c st buf bs)) (omega arith)
 
   module _ (i : ℕ) where
-    pub run_end : length bs ≤ i → run_at c st Nothing i buf ≡ run_from limit c st buf bs i
+    pub run_end : length bs ≤ i → run_at c st None i buf ≡ run_from limit c st buf bs i
     unfolding run_from run_of
-    run_end l = rw (drop_of_length-le bs l) (ap (λ n. run_at c st Nothing n buf) (omega arith))
+    run_end l = rw (drop_of_length-le bs l) (ap (λ n. run_at c st None n buf) (omega arith))
 
     -- Byte i, its step r and the buffer d that it leaves.
     module _ (r : Stepped) (d : List ℕ) (inner : i < length bs) (e : r ≡ step_of limit c st (get_or bs i 0))
@@ -46,14 +46,14 @@ module _ (limit : ℕ) (c : Scan) (st : Stats) (buf bs : List ℕ) where
       unfolding run_from run_of
       run_next = rw (drop-cons bs i 0 inner, e, f)
 
-      pub run_on : r.ended ≡ Nothing → run_from limit r.scan r.stats d bs (i + 1) ≡ run_from limit c st buf bs i
+      pub run_on : r.ended ≡ None → run_from limit r.scan r.stats d bs (i + 1) ≡ run_from limit c st buf bs i
       unfolding run_from
       run_on q = after_more i _ ∙ (rw add-one (rw q at run_next))
 
-      taking_rest : (x : Ended) → r.ended ≡ x → on_from limit (taking_of r (i + 1)) d bs ≡ run_from limit c st buf bs i
+      taking_rest : (x : Option Ended) → r.ended ≡ x → on_from limit (taking_of r (i + 1)) d bs ≡ run_from limit c st buf bs i
       unfolding on_from
-      taking_rest (Frame k n) q = rw q (rw q at run_next)
-      taking_rest Nothing q = rw q (run_on q)
+      taking_rest (Some x) q = rw q (rw q at run_next)
+      taking_rest None q = rw q (run_on q)
 
       -- One byte's step is a part.
       pub step_partial : well_formed limit c ≡ true → get_or bs i 0 < 256
@@ -78,17 +78,17 @@ left_start {limit} {c} {st} {buf} {bs} o =
 
 module _ {limit : ℕ} {whole : Run} {c : Scan} {st : Stats} {buf bs : List ℕ} {i : ℕ}
     (h : Left limit whole c st buf bs i) where
-  pub left_end : length bs ≤ i → run_at c st Nothing i buf ≡ whole
+  pub left_end : length bs ≤ i → run_at c st None i buf ≡ whole
   left_end l = run_end limit c st buf bs i l ∙ h.rest
 
   -- The next part.
   module _ {r : Scanned} {d : List ℕ} (f : PartialRun limit c st buf bs i r d) where
-    pub left_frame : {k : Kind} {n : ℕ} → r.ended ≡ Frame k n → record { scanned = r; buf = d } ≡ whole
+    pub left_frame : {x : Ended} → r.ended ≡ Some x → record { scanned = r; buf = d } ≡ whole
     unfolding on_from
     left_frame q =
         let rest = rw q at f.rest in
         rw q (rest ∙ h.rest)
 
-    pub left_on : r.ended ≡ Nothing → Left limit whole r.scan r.stats d bs r.taken
+    pub left_on : r.ended ≡ None → Left limit whole r.scan r.stats d bs r.taken
     unfolding on_from
     left_on q = record { inside = f.inside; order = f.order; rest = (rw q at f.rest) ∙ h.rest }

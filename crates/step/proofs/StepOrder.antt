@@ -6,10 +6,10 @@ use native.Mathlib.Omega.{arith}
 use lib.Dec.{eqb}
 use lib.ListN.{get_or}
 use borrow.Author.Tests.{le-leb, lt-ltb, eq-eqb, eqb-false}
+use Rattle.std.specs.Prelude.{Some, None}
+use Rattle.std.specs.declared.option.Option.{Option}
 use Rattle.wire.specs.Family.{header, tail, starting_with}
 use Rattle.wire.specs.declared.Kind.{Kind}
-use Rattle.wire.specs.declared.MaybeKind.{MaybeKind}
-use Rattle.wire.specs.declared.MaybeKind.TheVariants.{Some, None}
 use Rattle.stream.specs.Length.{in_range}
 use Rattle.scan.specs.Scan.{well_formed}
 use Rattle.scan.specs.Start.{abandoned, start_as, start_of}
@@ -33,7 +33,7 @@ abbrev Ordered : ℕ → Stepped → Type 0
 Ordered limit r = well_formed limit r.scan ≡ true
 
 module _ (limit b : ℕ) where
-  start_as_order : (st : Stats) (o : MaybeKind) → Ordered limit (start_as st o)
+  start_as_order : (st : Stats) (o : Option Kind) → Ordered limit (start_as st o)
   unfolding well_formed
   start_as_order st (Some k) = refl
   start_as_order st None = refl

@@ -7,7 +7,8 @@
 --   PartialRun                    r took one or more bytes from byte i on, and begins the run from there
 --   DataRun                       r took bytes from byte i on until the data or the bytes ended, and ended no frame;
 --                                 the run goes on from there as from byte i
-use Rattle.std.specs.Prelude.{◌≡◌, List, true, ℕ, ◌+◌, ◌≤◌, ◌<◌, length, drop}
+use Rattle.std.specs.Prelude.{◌≡◌, List, true, ℕ, ◌+◌, ◌≤◌, ◌<◌, length, drop, Some, None}
+use Rattle.std.specs.declared.option.Option.{Option}
 use Rattle.scan.specs.Scan.{well_formed}
 use Rattle.step.specs.Slice.{Run, run_at, run_of}
 use Rattle.scan.specs.declared.State.{State}
@@ -15,7 +16,6 @@ use Rattle.scan.specs.declared.State.TheVariants.{Data}
 use Rattle.scan.specs.declared.Scan.{Scan}
 use Rattle.scan.specs.declared.stats.Stats.{Stats}
 use Rattle.scan.specs.declared.stats.Ended.{Ended}
-use Rattle.scan.specs.declared.stats.Ended.TheVariants.{Frame, Nothing}
 use Rattle.scan.specs.declared.stats.Scanned.{Scanned}
 
 abbrev pub after : ℕ → Run → Run
@@ -24,9 +24,9 @@ after i r = run_at r.scanned.scan r.scanned.stats r.scanned.ended (i + r.scanned
 unfoldable pub run_from : ℕ → Scan → Stats → List ℕ → List ℕ → ℕ → Run
 run_from limit c st buf bs i = after i (run_of limit c st buf (drop i bs))
 
-abbrev pub on_as : Ended → Run → Run → Run
-on_as (Frame k n) r rest = r
-on_as Nothing r rest = rest
+abbrev pub on_as : Option Ended → Run → Run → Run
+on_as (Some x) r rest = r
+on_as None r rest = rest
 
 unfoldable pub on_from : ℕ → Scanned → List ℕ → List ℕ → Run
 on_from limit r buf bs = on_as r.ended (record { scanned = r; buf = buf })
@@ -49,6 +49,6 @@ pub record DataRun (limit : ℕ) (c : Scan) (st : Stats) (buf bs : List ℕ) (i 
   pub forth : i ≤ r.taken
   pub inside : r.taken ≤ length bs
   pub order : well_formed limit r.scan ≡ true
-  pub quiet : r.ended ≡ Nothing
+  pub quiet : r.ended ≡ None
   pub past : r.taken < length bs → r.scan.state ≡ Data → ⊥
   pub rest : run_from limit r.scan r.stats left bs r.taken ≡ run_from limit c st buf bs i

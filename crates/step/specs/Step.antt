@@ -1,18 +1,17 @@
 -- What one byte does to a well-formed scan, to the counters and to the buffer.
 --   step_header, step_len, step_data, step_tail   the step of a byte in each state; step_in_state, by the state
---   step_of limit c st b   the step of the byte b: the scan c and the counters st after it, and whether it ended a frame
+--   step_of limit c st b   the step of the byte b: the scan c and the counters st after it, and the frame that it ended
 --   stored c buf b        the buffer after it: a data byte is stored at the scan's position; stored_in, by the state
 use Rattle.std.specs.Prelude.{List, cond, ℕ, ◌+◌, ◌*◌, ltb, eqb, get_or, set}
 use Rattle.wire.specs.Family.{header, tail}
 use Rattle.wire.specs.declared.Kind.{Kind}
 use Rattle.stream.specs.Length.{in_range}
 use Rattle.scan.specs.Scan.{at, hunting}
-use Rattle.scan.specs.Start.{continued, abandoned, start_of}
+use Rattle.scan.specs.Start.{frame_ended, continued, abandoned, start_of}
 use Rattle.scan.specs.declared.State.{State}
 use Rattle.scan.specs.declared.State.TheVariants.{Header, Len, Data, Tail}
 use Rattle.scan.specs.declared.Scan.{Scan}
 use Rattle.scan.specs.declared.stats.Stats.{Stats}
-use Rattle.scan.specs.declared.stats.Ended.TheVariants.{Frame}
 use Rattle.scan.specs.declared.stats.Stepped.{Stepped}
 
 -- b is the header's byte m; or another, which is tried as a new start
@@ -33,7 +32,7 @@ step_data k n p st = cond (ltb (p + 1) n) (continued (at Data k 0 n (p + 1)) st)
 -- b is the tail's byte m, and may end the frame; or another, which alone is tried as a new start
 abbrev pub step_tail : Kind → ℕ → ℕ → Stats → ℕ → Stepped
 step_tail k m n st b = cond (eqb b (get_or (tail k) m 0))
-    (cond (eqb m 3) (record { scan = hunting; stats = st; ended = Frame k n }) (continued (at Tail k (m + 1) n n) st))
+    (cond (eqb m 3) (record { scan = hunting; stats = st; ended = frame_ended k n }) (continued (at Tail k (m + 1) n n) st))
     (start_of (abandoned st (6 + n + m)) b)
 
 abbrev pub step_in_state : ℕ → State → Kind → ℕ → ℕ → ℕ → Stats → ℕ → Stepped
