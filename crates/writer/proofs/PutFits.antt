@@ -6,16 +6,12 @@ use lib.ListN.{length}
 use borrow.Author.Tests.{le-leb, lt-leb}
 use Rattle.wire.specs.Prefix.{over}
 use Rattle.writer.specs.Put.{placed, put_in}
-use Rattle.std.specs.Prelude.{Some, None}
+use Rattle.std.specs.Prelude.{Some}
 
 module _ (out : List ℕ) (at : ℕ) (b : List ℕ) where
   pub placed_fits : at + length b ≤ length out → placed out at b ≡ Some (at + length b)
   unfolding placed
   placed_fits h = rw (le-leb (at + length b) (length out) h)
-
-  pub placed_fails : length out < at + length b → placed out at b ≡ None
-  unfolding placed
-  placed_fails h = rw (lt-leb (at + length b) (length out) h)
 
   pub put_fits : at + length b ≤ length out → put_in out at b ≡ over out at b (length b)
   unfolding put_in

@@ -50,7 +50,7 @@ pub record WroteAll (w : Option Error) (f out left : List ℕ) (n : ℕ) : Type 
 module _ (f out left : List ℕ) (n : ℕ) where
   all_by_length : (b : Bool) → leb (length f) (length out) ≡ b
       → Ok n ≡ or_error (unless b (BufferTooSmall (length f))) (length f)
-      → left ≡ changed (unless b (BufferTooSmall (length f))) (written out f) out → WroteAll none f out left n
+      → left ≡ changed (unless b (BufferTooSmall (length f))) (written out f) out → WroteAll None f out left n
   all_by_length true q t l = record { good = refl; fits = leb-true (length f) (length out) q; size = cc; content = l }
   all_by_length false q t l = let z : ◌≡◌ {A = ℕ} 0 1 = cc in absurd (omega arith)
 

@@ -21,13 +21,16 @@ fn u32_bytes(v: u32) -> [u8; 4]
 }
 
 // Puts the bytes at place `at`. If they do not all fit, no byte changes.
+#[tactic(auto, unfolding(crate::specs::Put::placed, crate::specs::Put::put_in, wire::specs::Prefix::over))]
 pub fn put(out: &mut [u8], at: usize, bytes: &[u8]) -> Option<usize>
     ensures told { result ≡ placed out.old at bytes.now }
     ensures left { out.new ≡ put_in out.old at bytes.now }
 {
     let end = at.checked_add(bytes.len())?;
-    let place = out.get_mut(at..end)?;
-    place.copy_from_slice(bytes);
+    if out.len() < end {
+        return None;
+    }
+    out[at..end].copy_from_slice(bytes);
     Some(end)
 }
 
