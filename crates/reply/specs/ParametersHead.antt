@@ -17,5 +17,5 @@ head_of p = record {
   max_stationary_gate = get_or p 3 0;
 }
 
-unfoldable pub head_in : List ℕ → Option ParametersHead
+abbrev pub head_in : List ℕ → Option ParametersHead
 head_in p = cond (head_fits p) (Some (head_of p)) None
