@@ -11,16 +11,15 @@ use Rattle.wire.specs.Prefix.{padded}
 use Rattle.wire.proofs.Conditions.{cond-true, cond-false}
 use Rattle.refusal.specs.declared.Check.{Check}
 use Rattle.refusal.specs.declared.Check.TheVariants.{R8}
-use Rattle.refusal.specs.declared.MaybeCheck.TheVariants as Maybe
-use Rattle.wire.specs.declared.number.MaybeU8.TheVariants.{Some, None}
+use Rattle.std.specs.Prelude.{Some, None, Ok, Err}
+use Rattle.std.specs.declared.option.Option.{Option}
+use Rattle.std.specs.declared.result.Result.{Result}
 use Rattle.engineering.specs.Gates.{gates_fit, gates_at}
 use Rattle.engineering.specs.declared.gates.Gates.{Gates}
-use Rattle.engineering.specs.declared.gates.MaybeGates.{MaybeGates}
 use Rattle.engineering.proofs.Counts.{gates_some, gates_none}
 use Rattle.engineering.specs.Block.{extra_count, engineering_of}
-use Rattle.engineering.specs.Block.{checked_block, no_block, extra_bytes, extra_at}
+use Rattle.engineering.specs.Block.{checked_block, extra_bytes, extra_at}
 use Rattle.engineering.specs.declared.Engineering.{Engineering}
-use Rattle.engineering.specs.declared.CheckedEngineering.{CheckedEngineering}
 
 -- The length of a part that starts at place i and ends at place i + n.
 cancel : (i n : ℕ) → i + n - i ≡ n
@@ -28,32 +27,28 @@ cancel i n = omega arith
 
 module _ (b : List ℕ) where
   -- The answer if the block fits, and if it does not.
-  block_fits_lem : gates_fit b ≡ true → checked_block b ≡ record { failed = Maybe.None; engineering = engineering_of b }
+  block_fits_lem : gates_fit b ≡ true → checked_block b ≡ Ok (engineering_of b)
   unfolding checked_block
   block_fits_lem h = rw h
 
-  pub block_unfit : (o : MaybeGates) (k : CheckedEngineering) → o ≡ gates_at b → o ≡ MaybeGates.None → k ≡ no_block
-      → k ≡ checked_block b
+  pub block_unfit : (o : Option Gates) → o ≡ gates_at b → o ≡ None → Err R8 ≡ checked_block b
   unfolding checked_block
-  block_unfit o k e n f = rw (f, gates_none b (sym e ∙ n))
+  block_unfit o e n = rw (gates_none b (sym e ∙ n))
 
   -- The fields as the code reads them: g are the counts; p, q and r the copies; n is `extra_len`.
-  pub block_read : (o : MaybeGates) (g : Gates) {p q r : List ℕ} {n : ℕ} → o ≡ gates_at b → o ≡ MaybeGates.Some g
+  pub block_read : (o : Option Gates) (g : Gates) {p q r : List ℕ} {n : ℕ} → o ≡ gates_at b → o ≡ Some g
       → p ≡ padded 9 (take (2 + g.moving - 2) (drop 2 b))
       → q ≡ padded 9 (take (2 + g.moving + g.stationary - (2 + g.moving)) (drop (2 + g.moving) b))
       → r ≡ padded 8 (take (length b - (2 + g.moving + g.stationary)) (drop (2 + g.moving + g.stationary) b))
       → n ≡ extra_count (take (length b - (2 + g.moving + g.stationary)) (drop (2 + g.moving + g.stationary) b))
-      → record {
-        failed = Maybe.None;
-        engineering = record {
-          moving_gates = g.moving;
-          stationary_gates = g.stationary;
-          moving_energy = p;
-          stationary_energy = q;
-          extra = r;
-          extra_len = n;
-        };
-      } ≡ checked_block b
+      → Ok (record {
+        moving_gates = g.moving;
+        stationary_gates = g.stationary;
+        moving_energy = p;
+        stationary_energy = q;
+        extra = r;
+        extra_len = n;
+      }) ≡ checked_block b
   unfolding engineering_of
   block_read o g e h ep eq er en =
       let told = gates_some b g (sym e ∙ h) in
@@ -69,21 +64,13 @@ module _ (b : List ℕ) where
       ) (sym (block_fits_lem told.0))
 
   -- What the reader's answer says of the block.
-  pub read_fits : (k : CheckedEngineering) → k ≡ checked_block b → k.failed ≡ Maybe.None
-      → (gates_fit b ≡ true) × (k.engineering ≡ engineering_of b)
+  pub read_fits : (e : Engineering) → checked_block b ≡ Ok e → (gates_fit b ≡ true) × (e ≡ engineering_of b)
   unfolding checked_block
-  read_fits k e h =
-      let f : gates_fit b ≡ true = cond-true (gates_fit b) Maybe.None (Maybe.Some R8)
-      (sym (ap (λ x. x.failed) e) ∙ h) (λ q. cc) in
-      (f, ap (λ x. x.engineering) e ∙ rw f)
+  read_fits e h = let t = cond-true (gates_fit b) (Ok (engineering_of b)) (Err R8) h (λ q. cc) in (t, cc)
 
-  pub read_unfit : (k : CheckedEngineering) {c : Check} → k ≡ checked_block b → k.failed ≡ Maybe.Some c
-      → (gates_fit b ≡ false) × (k.failed ≡ Maybe.Some R8)
+  pub read_unfit : (c : Check) → checked_block b ≡ Err c → (gates_fit b ≡ false) × (c ≡ R8)
   unfolding checked_block
-  read_unfit k e h =
-      let f : gates_fit b ≡ false = cond-false (gates_fit b) Maybe.None (Maybe.Some R8)
-      (sym (ap (λ x. x.failed) e) ∙ h) (λ q. cc) in
-      (f, ap (λ x. x.failed) e ∙ rw f)
+  read_unfit c h = let t = cond-false (gates_fit b) (Ok (engineering_of b)) (Err R8) h (λ q. cc) in (t, cc)
 
 -- A reserved byte that was kept, and one that was not.
 module _ (e : Engineering) (i : ℕ) where

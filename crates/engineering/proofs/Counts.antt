@@ -7,14 +7,12 @@ use native.Mathlib.Omega.{arith}
 use lib.ListN.{length, get_or}
 use borrow.Author.Tests.{le-leb, leb-true}
 use Rattle.wire.specs.Number.{byte_at}
-use Rattle.wire.specs.declared.number.MaybeU8.{MaybeU8}
-use Rattle.wire.specs.declared.number.MaybeU8.TheVariants as U8
-use Rattle.wire.proofs.Numbers.{one, read_some, read_none, byte_is}
+use Rattle.wire.proofs.Numbers.{read_some, read_none, byte_is}
+use Rattle.std.specs.Prelude.{Some, None}
+use Rattle.std.specs.declared.option.Option.{Option}
 use Rattle.wire.proofs.Conditions.{cond-true, cond-false}
 use Rattle.engineering.specs.Gates.{moving_gates_in, stationary_gates_in, gates_fit, gates_of, gates_at}
 use Rattle.engineering.specs.declared.gates.Gates.{Gates}
-use Rattle.engineering.specs.declared.gates.MaybeGates.{MaybeGates}
-use Rattle.engineering.specs.declared.gates.MaybeGates.TheVariants.{Some, None}
 
 -- What `gates_fit` tests: the two counts are there, each is in range, and the energies are there.
 pub record Fits (b : List ℕ) : Type 0 where
@@ -62,30 +60,30 @@ module _ (b : List ℕ) where
   pub gates_short : length b < 2 → None ≡ gates_at b
   gates_short h = gates_unfit (λ f. omega arith)
 
-  pub moving_above : (o : MaybeU8) (x : ℕ) → o ≡ byte_at b 0 → o ≡ U8.Some x → 9 < x + 1 → None ≡ gates_at b
+  pub moving_above : (o : Option ℕ) (x : ℕ) → o ≡ byte_at b 0 → o ≡ Some x → 9 < x + 1 → None ≡ gates_at b
   moving_above o x q e h = let at = byte_is b 0 (sym q ∙ e) in gates_unfit (λ f. omega arith)
 
-  pub stationary_above : (o : MaybeU8) (y : ℕ) → o ≡ byte_at b 1 → o ≡ U8.Some y → 9 < y + 1 → None ≡ gates_at b
+  pub stationary_above : (o : Option ℕ) (y : ℕ) → o ≡ byte_at b 1 → o ≡ Some y → 9 < y + 1 → None ≡ gates_at b
   stationary_above o y q e h = let at = byte_is b 1 (sym q ∙ e) in gates_unfit (λ f. omega arith)
 
-  module _ (o p q : MaybeU8) (x y : ℕ) (eo : o ≡ byte_at b 0) (ox : o ≡ U8.Some x) (ep : p ≡ byte_at b 1)
-      (py : p ≡ U8.Some y) (eq : q ≡ byte_at b (1 + (x + 1) + (y + 1))) where
+  module _ (o p q : Option ℕ) (x y : ℕ) (eo : o ≡ byte_at b 0) (ox : o ≡ Some x) (ep : p ≡ byte_at b 1)
+      (py : p ≡ Some y) (eq : q ≡ byte_at b (1 + (x + 1) + (y + 1))) where
     moving : x ≡ get_or b 0 0
     moving = byte_is b 0 (sym eo ∙ ox)
 
     stationary : y ≡ get_or b 1 0
     stationary = byte_is b 1 (sym ep ∙ py)
 
-    pub energy_missing : q ≡ U8.None → None ≡ gates_at b
+    pub energy_missing : q ≡ None → None ≡ gates_at b
     energy_missing e =
-        let gone = read_none one b (1 + (x + 1) + (y + 1)) (sym eq ∙ e) in
+        let gone = read_none 1 b (1 + (x + 1) + (y + 1)) (sym eq ∙ e) in
         gates_unfit (λ f. omega (arith, moving, stationary))
 
-    pub gates_read : (z : ℕ) → q ≡ U8.Some z → x + 1 ≤ 9 → y + 1 ≤ 9
+    pub gates_read : (z : ℕ) → q ≡ Some z → x + 1 ≤ 9 → y + 1 ≤ 9
         → Some (record { moving = x + 1; stationary = y + 1 }) ≡ gates_at b
     unfolding gates_at
     gates_read z e h k =
-        let last = (read_some one b (1 + (x + 1) + (y + 1)) (sym eq ∙ e)).inside in
+        let last = (read_some 1 b (1 + (x + 1) + (y + 1)) (sym eq ∙ e)).inside in
         let fit : Fits b = omega (arith, moving, stationary) in
         rw (fits_complete fit, moving, stationary)
 
@@ -98,7 +96,7 @@ module _ (b : List ℕ) where
   unfolding gates_at
   gates_none e = cond-false (gates_fit b) _ None e (λ q. cc)
 
-  module _ (o : MaybeGates) (g : Gates) (e : o ≡ gates_at b) (h : o ≡ Some g) where
+  module _ (o : Option Gates) (g : Gates) (e : o ≡ gates_at b) (h : o ≡ Some g) where
     pub gates_inside : 2 + g.moving + g.stationary ≤ length b
     gates_inside = let told = gates_some g (sym e ∙ h) in rw told.1 (fits_sound told.0).energies
 

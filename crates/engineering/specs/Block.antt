@@ -6,21 +6,19 @@
 --   engineering_of b        what the block b is read as, if it fits
 --   no_engineering          every field 0
 --   engineering_if flag b   what the block b is read as; every field 0 if the flag is off
---   checked_block b         the answer to the block b: what it is read as; or that R8 fails, with every field 0
---   no_block                the answer to a block that does not fit
+--   checked_block b         the answer to the block b: what it is read as; or that R8 fails
 --   extra_bytes e           the reserved bytes that were kept, with their valid count, at most 8
 --   extra_at e i            reserved byte i, or none
 use Rattle.std.specs.Prelude.{List, Bool, cond, ℕ, ◌+◌, min, ltb, length, get_or, take, drop, replicate}
-use Rattle.refusal.specs.Check.{or_failed}
+use Rattle.std.specs.Prelude.{Some, None, Ok, Err}
+use Rattle.std.specs.declared.option.Option.{Option}
+use Rattle.std.specs.declared.result.Result.{Result}
+use Rattle.refusal.specs.declared.Check.{Check}
 use Rattle.refusal.specs.declared.Check.TheVariants.{R8}
-use Rattle.refusal.specs.declared.MaybeCheck.TheVariants as Maybe
 use Rattle.engineering.specs.Gates.{moving_gates_in, stationary_gates_in, gates_fit}
 use Rattle.wire.specs.Prefix.{padded}
-use Rattle.wire.specs.declared.number.MaybeU8.{MaybeU8}
-use Rattle.wire.specs.declared.number.MaybeU8.TheVariants.{Some, None}
 use Rattle.engineering.specs.declared.Engineering.{Engineering}
 use Rattle.engineering.specs.declared.ExtraBytes.{ExtraBytes}
-use Rattle.engineering.specs.declared.CheckedEngineering.{CheckedEngineering}
 
 abbrev pub reserved : List ℕ → List ℕ
 reserved b = drop (2 + moving_gates_in b + stationary_gates_in b) b
@@ -57,15 +55,12 @@ no_engineering = record {
 abbrev pub engineering_if : Bool → List ℕ → Engineering
 engineering_if flag b = cond flag (engineering_of b) no_engineering
 
-unfoldable pub checked_block : List ℕ → CheckedEngineering
-checked_block b = record { failed = or_failed (gates_fit b) R8 Maybe.None; engineering = engineering_if (gates_fit b) b }
-
-abbrev pub no_block : CheckedEngineering
-no_block = record { failed = Maybe.Some R8; engineering = no_engineering }
+unfoldable pub checked_block : List ℕ → Result Engineering Check
+checked_block b = cond (gates_fit b) (Ok (engineering_of b)) (Err R8)
 
 abbrev pub extra_bytes : Engineering → ExtraBytes
 extra_bytes e = record { bytes = e.extra; count = min e.extra_len 8 }
 
 -- "`light` and `out_pin` are reserved bytes 0 and 1, or none"
-unfoldable pub extra_at : Engineering → ℕ → MaybeU8
+unfoldable pub extra_at : Engineering → ℕ → Option ℕ
 extra_at e i = cond (ltb i (extra_bytes e).count) (Some (get_or e.extra i 0)) None

@@ -3,10 +3,9 @@
 --   gates_fit b   whether the block b has both bytes, in range, and all the energies that they announce
 --   gates_of b    the two gate counts of the block b
 --   gates_at b    the same, if the block fits
-use Rattle.std.specs.Prelude.{List, Bool, cond, ◌&&◌, ℕ, ◌+◌, leb, length, get_or}
+use Rattle.std.specs.Prelude.{List, Bool, cond, ◌&&◌, ℕ, ◌+◌, leb, length, get_or, Some, None}
+use Rattle.std.specs.declared.option.Option.{Option}
 use Rattle.engineering.specs.declared.gates.Gates.{Gates}
-use Rattle.engineering.specs.declared.gates.MaybeGates.{MaybeGates}
-use Rattle.engineering.specs.declared.gates.MaybeGates.TheVariants.{Some, None}
 
 -- "that many plus one energies of each"
 abbrev pub moving_gates_in : List ℕ → ℕ
@@ -23,5 +22,5 @@ gates_fit b = leb 2 (length b) && (leb (moving_gates_in b) 9 && (leb (stationary
 abbrev pub gates_of : List ℕ → Gates
 gates_of b = record { moving = moving_gates_in b; stationary = stationary_gates_in b }
 
-unfoldable pub gates_at : List ℕ → MaybeGates
+unfoldable pub gates_at : List ℕ → Option Gates
 gates_at b = cond (gates_fit b) (Some (gates_of b)) None

@@ -2,7 +2,7 @@
 ghost use Rattle.std.specs.Prelude.{◌≡◌};
 ghost use Rattle.engineering.specs.Gates.{gates_at};
 
-use wire::{GATES, MaybeU8, byte_at};
+use wire::{GATES, byte_at};
 
 // The numbers of gates that a block reports: `max_moving_gate` and `max_stationary_gate`, each plus one.
 #[derive(Clone, Copy)]
@@ -11,37 +11,30 @@ pub struct Gates {
     pub stationary: u8,
 }
 
-// The gate counts, if the block fits.
-#[derive(Clone, Copy)]
-pub enum MaybeGates {
-    Some(Gates),
-    None,
-}
-
 impl Gates {
     // Reads the counts of a block that fits (check R8): both are present and in range, and all energies present.
-    pub(crate) fn read(block: &[u8]) -> MaybeGates
+    pub(crate) fn read(block: &[u8]) -> Option<Gates>
         ensures read { result ≡ gates_at block.now }
     {
-        let MaybeU8::Some(max_moving_gate) = byte_at(block, 0) else {
-            return MaybeGates::None;
+        let Some(max_moving_gate) = byte_at(block, 0) else {
+            return None;
         };
-        let MaybeU8::Some(max_stationary_gate) = byte_at(block, 1) else {
-            return MaybeGates::None;
+        let Some(max_stationary_gate) = byte_at(block, 1) else {
+            return None;
         };
         let moving_gates = max_moving_gate as usize + 1;
         let stationary_gates = max_stationary_gate as usize + 1;
         if moving_gates > GATES {
-            return MaybeGates::None;
+            return None;
         }
         if stationary_gates > GATES {
-            return MaybeGates::None;
+            return None;
         }
         // If the last energy is present, all are.
-        let MaybeU8::Some(_) = byte_at(block, 1 + moving_gates + stationary_gates) else {
-            return MaybeGates::None;
+        let Some(_) = byte_at(block, 1 + moving_gates + stationary_gates) else {
+            return None;
         };
-        MaybeGates::Some(Gates {
+        Some(Gates {
             moving: max_moving_gate + 1,
             stationary: max_stationary_gate + 1,
         })

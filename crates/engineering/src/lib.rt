@@ -1,19 +1,16 @@
 // The engineering block of a report, energies by gate and reserved bytes: reading it, and its accessors.
-//
-// The Rust's `Option<Engineering>` is here a flag beside the block. With the flag off, every field of the block is 0.
 
 #![tactic(auto)]
 
 mod gates;
 
 ghost use Rattle.std.specs.Prelude.{◌≡◌};
-ghost use Rattle.wire.specs.Prefix.{padded};
 ghost use Rattle.wire.specs.Gate.{gate_values};
-ghost use Rattle.engineering.specs.Block.{extra_count, checked_block, no_block, no_engineering, extra_bytes, extra_at};
+ghost use Rattle.engineering.specs.Block.{extra_count, checked_block, no_engineering, extra_bytes, extra_at};
 
-use gates::{Gates, MaybeGates};
-use refusal::{Check, MaybeCheck};
-use wire::{GATES, GateValues, MAX_EXTRA, MaybeU8, copy_prefix, gate_array, gate_values, min};
+use gates::Gates;
+use refusal::Check;
+use wire::{GATES, GateValues, MAX_EXTRA, gate_values, zero_padded};
 
 // The largest number that `extra_len` counts.
 const EXTRA_LEN_MAX: usize = 255;
@@ -40,13 +37,6 @@ pub struct Engineering {
     pub extra_len: u8,
 }
 
-// The fields of an engineering block; or the check that fails, beside fields that are all 0.
-#[derive(Clone, Copy)]
-pub struct CheckedEngineering {
-    pub failed: MaybeCheck,
-    pub engineering: Engineering,
-}
-
 impl Engineering {
     // Returns the valid moving energies, gate 0 first.
     pub fn moving(self) -> GateValues
@@ -71,59 +61,52 @@ impl Engineering {
         let bytes = self.extra;
         ExtraBytes {
             bytes,
-            count: min(self.extra_len as usize, MAX_EXTRA),
+            count: (self.extra_len as usize).min(MAX_EXTRA),
         }
     }
 
     // Returns the light level, on firmware that reports it: reserved byte 0.
-    pub fn light(self) -> MaybeU8
+    pub fn light(self) -> Option<u8>
         ensures given { result ≡ extra_at self 0 }
     {
         self.extra_at(0)
     }
 
     // Returns the OUT pin's state, on firmware that reports it: reserved byte 1.
-    pub fn out_pin(self) -> MaybeU8
+    pub fn out_pin(self) -> Option<u8>
         ensures given { result ≡ extra_at self 1 }
     {
         self.extra_at(1)
     }
 
     // Returns reserved byte `i`, or `None` if it was not sent or not kept.
-    fn extra_at(self, i: usize) -> MaybeU8
+    #[tactic(auto, unfolding(crate::specs::Block::extra_at))]
+    fn extra_at(self, i: usize) -> Option<u8>
         ensures given { result ≡ extra_at self i }
     {
         let kept = self.extra();
-        if i < kept.count {
-            let bytes = kept.bytes;
-            MaybeU8::Some(bytes[i])
-        } else {
-            MaybeU8::None
-        }
+        kept.bytes[..kept.count].get(i).copied()
     }
 }
 
 // Reads the bytes after the basic ones: two gate counts, the energies of each, then reserved bytes (check R8).
-pub fn read_block(block: &[u8]) -> CheckedEngineering
+pub fn read_block(block: &[u8]) -> Result<Engineering, Check>
     ensures checked { result ≡ checked_block block.now }
 {
-    let MaybeGates::Some(gates) = Gates::read(block) else {
-        return no_block();
+    let Some(gates) = Gates::read(block) else {
+        return Err(Check::R8);
     };
     let moving_end = 2 + gates.moving as usize;
     let stationary_end = moving_end + gates.stationary as usize;
     let reserved = &block[stationary_end..];
-    CheckedEngineering {
-        failed: MaybeCheck::None,
-        engineering: Engineering {
-            moving_gates: gates.moving,
-            stationary_gates: gates.stationary,
-            moving_energy: gate_array(&block[2..moving_end]),
-            stationary_energy: gate_array(&block[moving_end..stationary_end]),
-            extra: extra_array(reserved),
-            extra_len: extra_count(reserved),
-        },
-    }
+    Ok(Engineering {
+        moving_gates: gates.moving,
+        stationary_gates: gates.stationary,
+        moving_energy: zero_padded(&block[2..moving_end]),
+        stationary_energy: zero_padded(&block[moving_end..stationary_end]),
+        extra: zero_padded(reserved),
+        extra_len: extra_count(reserved),
+    })
 }
 
 // Returns an engineering block whose fields are all 0.
@@ -140,28 +123,9 @@ pub fn no_engineering() -> Engineering
     }
 }
 
-// Returns the answer to a block that does not fit.
-fn no_block() -> CheckedEngineering
-    ensures made { result ≡ no_block }
-{
-    CheckedEngineering {
-        failed: MaybeCheck::Some(Check::R8),
-        engineering: no_engineering(),
-    }
-}
-
 // Counts the reserved bytes, up to 255.
 fn extra_count(reserved: &[u8]) -> u8
     ensures counted { result ≡ extra_count reserved.now }
 {
-    min(reserved.len(), EXTRA_LEN_MAX) as u8
-}
-
-// Returns the first reserved bytes, with zeros after them if there are fewer than are kept.
-fn extra_array(src: &[u8]) -> [u8; MAX_EXTRA]
-    ensures copied { result ≡ padded 8 src.now }
-{
-    let mut bytes: [u8; MAX_EXTRA] = [0; MAX_EXTRA];
-    copy_prefix(&mut bytes, src);
-    bytes
+    reserved.len().min(EXTRA_LEN_MAX) as u8
 }
