@@ -71,13 +71,3 @@ module _ (b : List ℕ) where
   pub read_unfit : (c : Check) → checked_block b ≡ Err c → (gates_fit b ≡ false) × (c ≡ R8)
   unfolding checked_block
   read_unfit c h = let t = cond-false (gates_fit b) (Ok (engineering_of b)) (Err R8) h (λ q. cc) in (t, cc)
-
--- A reserved byte that was kept, and one that was not.
-module _ (e : Engineering) (i : ℕ) where
-  pub extra_there : i < (extra_bytes e).count → extra_at e i ≡ Some (get_or e.extra i 0)
-  unfolding extra_at
-  extra_there h = rw (lt-ltb i (extra_bytes e).count h)
-
-  pub extra_missing : (extra_bytes e).count ≤ i → extra_at e i ≡ None
-  unfolding extra_at
-  extra_missing h = rw (le-ltb i (extra_bytes e).count h)

@@ -7,13 +7,11 @@ use lib.Dec.{leb}
 use lib.ListN.{length}
 use borrow.Author.Tests.{le-leb, lt-leb, leb-true, leb-false}
 use Rattle.wire.specs.Number.{byte_at, le16_at}
-use Rattle.wire.specs.declared.number.MaybeU8.TheVariants as U8
-use Rattle.wire.specs.declared.number.MaybeU16.TheVariants as U16
+use Rattle.std.specs.Prelude.{Some, None}
 use Rattle.wire.proofs.Conditions.{cond-true, cond-false}
-use Rattle.wire.proofs.Numbers.{two, read_some, byte_is}
+use Rattle.wire.proofs.Numbers.{read_some, byte_is}
 use Rattle.report.specs.Basic.{basic_of, basic_at}
 use Rattle.report.specs.declared.basic.Basic.{Basic}
-use Rattle.report.specs.declared.basic.MaybeBasic.TheVariants.{Some, None}
 
 module _ (b : List ℕ) where
   basic_there : 9 ≤ length b → basic_at b ≡ Some (basic_of b)
@@ -25,8 +23,8 @@ module _ (b : List ℕ) where
   basic_missing h = rw (lt-leb 9 (length b) h)
 
   -- The answer from the fields as the code reads them.
-  pub basic_read : {t m e n f d : ℕ} → byte_at b 0 ≡ U8.Some t → le16_at b 1 ≡ U16.Some m → byte_at b 3 ≡ U8.Some e
-      → le16_at b 4 ≡ U16.Some n → byte_at b 6 ≡ U8.Some f → le16_at b 7 ≡ U16.Some d
+  pub basic_read : {t m e n f d : ℕ} → byte_at b 0 ≡ Some t → le16_at b 1 ≡ Some m → byte_at b 3 ≡ Some e
+      → le16_at b 4 ≡ Some n → byte_at b 6 ≡ Some f → le16_at b 7 ≡ Some d
       → Some (record {
         state = t;
         moving_distance_cm = m;
@@ -36,12 +34,12 @@ module _ (b : List ℕ) where
         detection_distance_cm = d;
       }) ≡ basic_at b
   basic_read t m e n f d =
-      let last = read_some two b 7 d in
+      let last = read_some 2 b 7 d in
       rw (
         byte_is b 0 t,
-        (read_some two b 1 m).value,
+        (read_some 2 b 1 m).value,
         byte_is b 3 e,
-        (read_some two b 4 n).value,
+        (read_some 2 b 4 n).value,
         byte_is b 6 f,
         last.value,
       ) (sym (basic_there (omega arith)))

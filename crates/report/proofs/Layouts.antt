@@ -11,24 +11,20 @@ use borrow.Author.Tests.{le-leb, lt-leb, leb-true, eq-eqb, ne_eqb, not-true, not
 use borrow.Author.Rules.{part_to_end}
 use Rattle.wire.specs.Equal.{same_bytes}
 use Rattle.wire.specs.Number.{byte_at}
-use Rattle.wire.specs.declared.number.MaybeU8.{MaybeU8}
-use Rattle.wire.specs.declared.number.MaybeU8.TheVariants as U8
-use Rattle.wire.proofs.Numbers.{one, read_some, byte_is}
+use Rattle.wire.proofs.Numbers.{read_some, byte_is}
+use Rattle.std.specs.Prelude.{Some, None, Ok, Err}
+use Rattle.std.specs.declared.option.Option.{Option}
+use Rattle.std.specs.declared.result.Result.{Result}
 use Rattle.refusal.specs.Check.{Checks, first_failed}
-use Rattle.refusal.proofs.Checks.{passes_sound, failed_before, passed_before}
+use Rattle.refusal.proofs.Checks.{passes_sound, failed_before, passed_before, error_told, value_told}
 use Rattle.refusal.specs.declared.Check.{Check}
 use Rattle.refusal.specs.declared.Check.TheVariants.{R1, R2, R3, R4, R5, R6, R7, R8}
-use Rattle.refusal.specs.declared.MaybeCheck.{MaybeCheck}
-use Rattle.refusal.specs.declared.MaybeCheck.TheVariants.{Some, None}
 use Rattle.report.specs.Basic.{basic_at}
 use Rattle.report.specs.declared.basic.Basic.{Basic}
-use Rattle.report.specs.declared.basic.MaybeBasic.{MaybeBasic}
 use Rattle.report.proofs.Basics.{basic_some, basic_none}
 use Rattle.report.specs.Layout.{body, block, layout_of}
-use Rattle.report.specs.LayoutCheck.{r4, r6, r7, r8, report_checks, layout_checks, layout_as, checked_layout}
+use Rattle.report.specs.LayoutCheck.{r4, r6, r7, r8, report_checks, layout_checks, checked_layout}
 use Rattle.report.specs.declared.layout.Layout.{Layout}
-use Rattle.report.specs.declared.layout.CheckedLayout.{CheckedLayout}
-use Rattle.report.specs.declared.layout.CheckedLayout.TheVariants.{Ok, Failed}
 
 -- The body, as the code cuts it out.
 pub body_part : (s : List ℕ) → take (length s - 2 - 2) (drop 2 s) ≡ body s
@@ -53,18 +49,18 @@ two_more s h = omega arith
 -- R1 to R5, each after those before it. The code's answers are o for the second byte, q for the type, k for the basic
 -- bytes; r is whether the last two bytes are 55 00.
 module _ (s : List ℕ) where
-  pub fails_R1 : length s < 2 → Failed R1 ≡ checked_layout s
+  pub fails_R1 : length s < 2 → Err R1 ≡ checked_layout s
   unfolding checked_layout
   fails_R1 h = rw (lt-leb 2 (length s) h)
 
-  module _ (o : MaybeU8) (x : ℕ) (eo : o ≡ byte_at s 1) (ox : o ≡ U8.Some x) where
+  module _ (o : Option ℕ) (x : ℕ) (eo : o ≡ byte_at s 1) (ox : o ≡ Some x) where
     second : x ≡ get_or s 1 0
     second = byte_is s 1 (sym eo ∙ ox)
 
     first : leb 2 (length s) ≡ true
-    first = le-leb 2 (length s) (read_some one s 1 (sym eo ∙ ox)).inside
+    first = le-leb 2 (length s) (read_some 1 s 1 (sym eo ∙ ox)).inside
 
-    pub fails_R2 : (x ≡ 0xAA → ⊥) → Failed R2 ≡ checked_layout s
+    pub fails_R2 : (x ≡ 0xAA → ⊥) → Err R2 ≡ checked_layout s
     unfolding checked_layout
     fails_R2 h = rw (first, ne_eqb (get_or s 1 0) 0xAA (λ e. h (second ∙ e)))
 
@@ -72,7 +68,7 @@ module _ (s : List ℕ) where
       head : eqb (get_or s 1 0) 0xAA ≡ true
       head = eq-eqb (get_or s 1 0) 0xAA (sym second ∙ aa)
 
-      pub fails_R3 : length s < 4 → Failed R3 ≡ checked_layout s
+      pub fails_R3 : length s < 4 → Err R3 ≡ checked_layout s
       unfolding checked_layout
       fails_R3 h = rw (first, head, lt-leb 4 (length s) h)
 
@@ -80,21 +76,21 @@ module _ (s : List ℕ) where
         last : r ≡ r4 s
         last = rw part_to_end at er
 
-        pub fails_R4 : not r ≡ true → Failed R4 ≡ checked_layout s
+        pub fails_R4 : not r ≡ true → Err R4 ≡ checked_layout s
         unfolding checked_layout
         fails_R4 h = rw (first, head, le-leb 4 (length s) four, sym last ∙ not-true r h)
 
-        module _ (h : not r ≡ false) (k : MaybeBasic) (ek : k ≡ basic_at (take (length s - 2 - 2) (drop 2 s))) where
+        module _ (h : not r ≡ false) (k : Option Basic) (ek : k ≡ basic_at (take (length s - 2 - 2) (drop 2 s))) where
           basic : k ≡ basic_at (body s)
           basic = rw body_part at ek
 
-          pub fails_R5 : k ≡ MaybeBasic.None → Failed R5 ≡ checked_layout s
+          pub fails_R5 : k ≡ None → Err R5 ≡ checked_layout s
           unfolding checked_layout
           fails_R5 n =
               let short = basic_none (body s) (sym basic ∙ n) in
               rw (first, head, le-leb 4 (length s) four, sym last ∙ not-false r h, lt-leb 9 (length (body s)) short)
 
-          pub layout_read : (q : MaybeU8) (t : ℕ) (f : Basic) → q ≡ byte_at s 0 → q ≡ U8.Some t → k ≡ MaybeBasic.Some f
+          pub layout_read : (q : Option ℕ) (t : ℕ) (f : Basic) → q ≡ byte_at s 0 → q ≡ Some t → k ≡ Some f
               → Ok (record { data_type = t; basic = f }) ≡ checked_layout s
           unfolding checked_layout
           layout_read q t f eq qt kf =
@@ -103,28 +99,20 @@ module _ (s : List ℕ) where
               rw (byte_is s 0 (sym eq ∙ qt), read.1)
               (rw (first, head, le-leb 4 (length s) four, sym last ∙ not-false r h, long))
 
-as_failed : (o : MaybeCheck) (v : Layout) (c : Check) → layout_as o v ≡ Failed c → o ≡ Some c
-as_failed (Some d) v c e = let q : d ≡ c = cc in rw q
-as_failed None v c e = let z : ◌≡◌ {A = ℕ} 0 1 = cc in absurd (omega arith)
-
-as_read : (o : MaybeCheck) (v w : Layout) → layout_as o v ≡ Ok w → (o ≡ None) × (w ≡ v)
-as_read (Some d) v w e = let z : ◌≡◌ {A = ℕ} 0 1 = cc in absurd (omega arith)
-as_read None v w e = (refl, cc)
-
 -- The checks after the layout's: R6 to R8.
 abbrev pub later_checks : Checks
 later_checks = (R6, r6) ∷ (R7, r7) ∷ (R8, r8) ∷ []
 
 -- What the answer says of all eight checks.
 module _ (s : List ℕ) where
-  pub first_failed_lem : (c : Check) → checked_layout s ≡ Failed c → first_failed report_checks s ≡ Some c
+  pub first_failed_lem : (c : Check) → checked_layout s ≡ Err c → first_failed report_checks s ≡ Some c
   unfolding checked_layout
   first_failed_lem c e =
-      failed_before s later_checks layout_checks c (as_failed (first_failed layout_checks s) (layout_of s) c e)
+      failed_before s later_checks layout_checks c (error_told (first_failed layout_checks s) (layout_of s) e)
 
   passed : (v : Layout) → checked_layout s ≡ Ok v → first_failed layout_checks s ≡ None
   unfolding checked_layout
-  passed v e = (as_read (first_failed layout_checks s) (layout_of s) v e).0
+  passed v e = (value_told (first_failed layout_checks s) (layout_of s) e).0
 
   pub first_later : (v : Layout) → checked_layout s ≡ Ok v
       → first_failed report_checks s ≡ first_failed later_checks s
@@ -132,7 +120,7 @@ module _ (s : List ℕ) where
 
   pub layout_is : (v : Layout) → checked_layout s ≡ Ok v → v ≡ layout_of s
   unfolding checked_layout
-  layout_is v e = (as_read (first_failed layout_checks s) (layout_of s) v e).1
+  layout_is v e = (value_told (first_failed layout_checks s) (layout_of s) e).1
 
   pub body_long : (v : Layout) → checked_layout s ≡ Ok v → 9 ≤ length (body s)
   body_long v e = leb-true 9 (length (body s)) (passes_sound s layout_checks (passed v e)).1.1.1.1.0
@@ -143,7 +131,7 @@ module _ (s : List ℕ) where
       omega (arith, length-take (length s - 4) (drop 2 s), length-drop 2 s)
 
   -- So the last two bytes are there, and the eleven bytes before the block end before them.
-  module _ (k : CheckedLayout) (v : Layout) (e : k ≡ checked_layout s) (t : k ≡ Ok v) where
+  module _ (k : Result Layout Check) (v : Layout) (e : k ≡ checked_layout s) (t : k ≡ Ok v) where
     pub trailer_inside : 2 ≤ length s
     trailer_inside = omega (arith, data_long v (sym e ∙ t))
 

@@ -1,10 +1,10 @@
 -- The nine basic bytes of a report.
 --   basic_of b   the fields in the first nine bytes of b
 --   basic_at b   the same, if b has nine bytes
-use Rattle.std.specs.Prelude.{List, cond, ℕ, leb, length, get_or, take, drop}
+use Rattle.std.specs.Prelude.{List, cond, ℕ, leb, length, get_or, take, drop, Some, None}
+use Rattle.std.specs.declared.option.Option.{Option}
 use Rattle.wire.specs.Number.{little}
 use Rattle.report.specs.declared.basic.Basic.{Basic}
-use Rattle.report.specs.declared.basic.MaybeBasic.{MaybeBasic}
 
 -- "nine bytes (state; moving distance, two bytes; energy; stationary distance, two; energy; detection distance, two)"
 abbrev pub basic_of : List ℕ → Basic
@@ -17,5 +17,5 @@ basic_of b = record {
   detection_distance_cm = little (take 2 (drop 7 b));
 }
 
-unfoldable pub basic_at : List ℕ → MaybeBasic
-basic_at b = cond (leb 9 (length b)) (MaybeBasic.Some (basic_of b)) MaybeBasic.None
+unfoldable pub basic_at : List ℕ → Option Basic
+basic_at b = cond (leb 9 (length b)) (Some (basic_of b)) None

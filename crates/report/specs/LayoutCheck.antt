@@ -3,20 +3,16 @@
 --   known_type t, nothing_after t b, block_fits t b   R6 to R8, of the type t and the bytes b after the basic ones
 --   report_checks      R1 to R8, in this order
 --   layout_checks      R1 to R5, in this order
---   layout_as o e      the answer by the first failed check o; the layout e if none failed
---   failed_in k        the failed check in the answer k, if there is one
 --   checked_layout s   the reader's answer to the data s, by R1 to R5
 use Rattle.std.specs.Prelude.{List, [], ◌∷◌, Bool, not, ◌||◌, ℕ, ◌-◌, leb, eqb, length, get_or, drop}
+use Rattle.std.specs.declared.result.Result.{Result}
 use Rattle.wire.specs.Equal.{same_bytes}
-use Rattle.refusal.specs.Check.{Checks, first_failed}
+use Rattle.refusal.specs.Check.{Checks, checked_by}
+use Rattle.refusal.specs.declared.Check.{Check}
 use Rattle.refusal.specs.declared.Check.TheVariants.{R1, R2, R3, R4, R5, R6, R7, R8}
-use Rattle.refusal.specs.declared.MaybeCheck.{MaybeCheck}
-use Rattle.refusal.specs.declared.MaybeCheck.TheVariants.{Some, None}
 use Rattle.engineering.specs.Gates.{gates_fit}
 use Rattle.report.specs.Layout.{data_type_in, body, block, is_engineering, layout_of}
 use Rattle.report.specs.declared.layout.Layout.{Layout}
-use Rattle.report.specs.declared.layout.CheckedLayout.{CheckedLayout}
-use Rattle.report.specs.declared.layout.CheckedLayout.TheVariants.{Ok, Failed}
 
 -- "R1 two bytes present; R2 second is AA; R3 at least two more; R4 last two are 55 00; R5 nine basic bytes"
 abbrev pub r1 : List ℕ → Bool
@@ -59,13 +55,5 @@ report_checks = (R1, r1) ∷ (R2, r2) ∷ (R3, r3) ∷ (R4, r4) ∷ (R5, r5) ∷
 abbrev pub layout_checks : Checks
 layout_checks = (R1, r1) ∷ (R2, r2) ∷ (R3, r3) ∷ (R4, r4) ∷ (R5, r5) ∷ []
 
-abbrev pub layout_as : MaybeCheck → Layout → CheckedLayout
-layout_as (Some c) e = Failed c
-layout_as None e = Ok e
-
-abbrev pub failed_in : CheckedLayout → MaybeCheck
-failed_in (Failed c) = Some c
-failed_in (Ok e) = None
-
-unfoldable pub checked_layout : List ℕ → CheckedLayout
-checked_layout s = layout_as (first_failed layout_checks s) (layout_of s)
+unfoldable pub checked_layout : List ℕ → Result Layout Check
+checked_layout s = checked_by layout_checks s (layout_of s)

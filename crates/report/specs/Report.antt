@@ -5,11 +5,12 @@
 --   no_report              every field 0
 --   target_if there d e    the target at distance d with energy e, or none
 --   moving_target r, stationary_target r   the targets of the report r, each if its state has it
-use Rattle.std.specs.Prelude.{List, Bool, false, cond, ℕ}
+use Rattle.std.specs.Prelude.{List, Bool, false, cond, ℕ, Some, None}
+use Rattle.std.specs.declared.option.Option.{Option}
 use Rattle.target_state.specs.State.{state_of, moving_of, stationary_of}
 use Rattle.engineering.specs.Block.{engineering_if, no_engineering}
 use Rattle.target_state.specs.declared.TargetState.TheVariants as State
-use Rattle.report.specs.declared.MaybeTarget.{MaybeTarget}
+use Rattle.report.specs.declared.Target.{Target}
 use Rattle.report.specs.Basic.{basic_of}
 use Rattle.report.specs.declared.basic.Basic.{Basic}
 use Rattle.report.specs.Layout.{data_type_in, body, block, is_engineering}
@@ -46,11 +47,11 @@ no_report = record {
   engineering = no_engineering;
 }
 
-abbrev pub target_if : Bool → ℕ → ℕ → MaybeTarget
-target_if there d e = cond there (MaybeTarget.Some (record { distance_cm = d; energy = e })) MaybeTarget.None
+abbrev pub target_if : Bool → ℕ → ℕ → Option Target
+target_if there d e = cond there (Some (record { distance_cm = d; energy = e })) None
 
-abbrev pub moving_target : Report → MaybeTarget
+abbrev pub moving_target : Report → Option Target
 moving_target r = target_if (moving_of r.state) r.moving_distance_cm r.moving_energy
 
-abbrev pub stationary_target : Report → MaybeTarget
+abbrev pub stationary_target : Report → Option Target
 stationary_target r = target_if (stationary_of r.state) r.stationary_distance_cm r.stationary_energy

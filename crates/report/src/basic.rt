@@ -2,7 +2,7 @@
 ghost use Rattle.std.specs.Prelude.{◌≡◌};
 ghost use Rattle.report.specs.Basic.{basic_at};
 
-use wire::{MaybeU8, MaybeU16, byte_at, le16};
+use wire::{byte_at, le16};
 
 // The nine basic bytes of a report, as they are sent: state; moving distance and energy; stationary distance and
 // energy; detection distance.
@@ -16,37 +16,30 @@ pub struct Basic {
     pub detection_distance_cm: u16,
 }
 
-// The basic bytes, if all are present.
-#[derive(Clone, Copy)]
-pub enum MaybeBasic {
-    Some(Basic),
-    None,
-}
-
 impl Basic {
     // Reads the nine basic bytes at the front of `body`.
-    pub(crate) fn read(body: &[u8]) -> MaybeBasic
+    pub(crate) fn read(body: &[u8]) -> Option<Basic>
         ensures read { result ≡ basic_at body.now }
     {
-        let MaybeU8::Some(state) = byte_at(body, 0) else {
-            return MaybeBasic::None;
+        let Some(state) = byte_at(body, 0) else {
+            return None;
         };
-        let MaybeU16::Some(moving_distance_cm) = le16(body, 1) else {
-            return MaybeBasic::None;
+        let Some(moving_distance_cm) = le16(body, 1) else {
+            return None;
         };
-        let MaybeU8::Some(moving_energy) = byte_at(body, 3) else {
-            return MaybeBasic::None;
+        let Some(moving_energy) = byte_at(body, 3) else {
+            return None;
         };
-        let MaybeU16::Some(stationary_distance_cm) = le16(body, 4) else {
-            return MaybeBasic::None;
+        let Some(stationary_distance_cm) = le16(body, 4) else {
+            return None;
         };
-        let MaybeU8::Some(stationary_energy) = byte_at(body, 6) else {
-            return MaybeBasic::None;
+        let Some(stationary_energy) = byte_at(body, 6) else {
+            return None;
         };
-        let MaybeU16::Some(detection_distance_cm) = le16(body, 7) else {
-            return MaybeBasic::None;
+        let Some(detection_distance_cm) = le16(body, 7) else {
+            return None;
         };
-        MaybeBasic::Some(Basic {
+        Some(Basic {
             state,
             moving_distance_cm,
             moving_energy,

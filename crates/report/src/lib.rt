@@ -1,6 +1,4 @@
 // Reports of the LD2410: reading them from a report frame's data, and their targets.
-//
-// The Rust's `Option<Engineering>` is here a flag beside the block. With the flag off, every field of the block is 0.
 
 #![tactic(auto)]
 
@@ -12,15 +10,14 @@ ghost use Rattle.std.specs.Prelude.{◌≡◌};
 ghost use Rattle.refusal.specs.Check.{Causes};
 ghost use Rattle.report.specs.Report.{report_with, no_report};
 ghost use Rattle.report.specs.LayoutCheck.{report_checks};
-ghost use Rattle.report.specs.Check.{passing, failing, checked_report, completed_report, parsed_report};
-ghost use Rattle.report.specs.Check.{returned_report};
+ghost use Rattle.report.specs.Check.{checked_report, completed_report, parsed_report, returned_report};
 ghost use Rattle.report.specs.Claims.{Calibrated};
 
 use basic::Basic;
 use engineering::{Engineering, no_engineering, read_block};
-use layout::{CheckedLayout, Layout};
+use layout::Layout;
 pub use layout::{REPORT_HEAD, REPORT_TRAILER};
-use refusal::{Check, MaybeCheck, Outcome};
+use refusal::{Check, Error};
 use target_state::TargetState;
 
 // Where the bytes after the basic ones start in the data of a report frame.
@@ -39,14 +36,10 @@ pub struct Target {
     pub energy: u8,
 }
 
-// A target, if there is one.
-#[derive(Clone, Copy)]
-pub enum MaybeTarget {
-    Some(Target),
-    None,
-}
-
 // One periodic report from the module. `engineering` is all 0 if `has_engineering` is off.
+//
+// Keeps the flag beside the block, in place of an `Option<Engineering>`: `write_report` refuses with 6 a report whose
+// flag is off beside a block that is not 0 (`causes`, edit report_writer/flag_off_not_tested).
 #[derive(Clone, Copy)]
 pub struct Report {
     pub moving_distance_cm: u16,
@@ -57,76 +50,6 @@ pub struct Report {
     pub stationary_energy: u8,
     pub has_engineering: bool,
     pub engineering: Engineering,
-}
-
-// The report that data are read as; or the first check that fails, beside a report that is all 0.
-#[derive(Clone, Copy)]
-pub struct CheckedReport {
-    pub failed: MaybeCheck,
-    pub report: Report,
-}
-
-// The same, with the refusal that the check gives instead of the check.
-#[derive(Clone, Copy)]
-pub struct ReportResult {
-    pub outcome: Outcome,
-    pub report: Report,
-}
-
-impl CheckedReport {
-    // Returns the report: every check holds.
-    fn passing(report: Report) -> Self
-        ensures made { result ≡ passing report }
-    {
-        CheckedReport {
-            failed: MaybeCheck::None,
-            report,
-        }
-    }
-
-    // Returns the first check that fails, beside a report that is all 0.
-    fn failing(failed: MaybeCheck) -> Self
-        ensures made { result ≡ failing failed }
-    {
-        CheckedReport {
-            failed,
-            report: no_report(),
-        }
-    }
-
-    // Completes the report by its type and the bytes after the basic ones: checks R6 to R8.
-    fn completed(basic: Basic, data_type: u8, block: &[u8]) -> Self
-        ensures checked { result ≡ completed_report basic data_type block.now }
-    {
-        match data_type {
-            DATA_TYPE_ENGINEERING => CheckedReport::with_block(basic, block),
-            DATA_TYPE_BASIC => CheckedReport::without_block(basic, block),
-            _ => CheckedReport::failing(MaybeCheck::Some(Check::R6)),
-        }
-    }
-
-    // Completes an engineering report: check R8.
-    fn with_block(basic: Basic, block: &[u8]) -> Self
-        ensures checked { result ≡ completed_report basic 0x01 block.now }
-    {
-        let read = read_block(block);
-        let failed = read.failed;
-        let MaybeCheck::None = failed else {
-            return CheckedReport::failing(failed);
-        };
-        let engineering = read.engineering;
-        CheckedReport::passing(Report::made(basic, true, engineering))
-    }
-
-    // Completes a basic report: check R7.
-    fn without_block(basic: Basic, block: &[u8]) -> Self
-        ensures checked { result ≡ completed_report basic 0x02 block.now }
-    {
-        if block.len() != 0 {
-            return CheckedReport::failing(MaybeCheck::Some(Check::R7));
-        }
-        CheckedReport::passing(Report::made(basic, false, no_engineering()))
-    }
 }
 
 impl Report {
@@ -146,47 +69,50 @@ impl Report {
         }
     }
 
+    // Completes the report by its type and the bytes after the basic ones: checks R6 to R8.
+    fn completed(basic: Basic, data_type: u8, block: &[u8]) -> Result<Report, Check>
+        ensures checked { result ≡ completed_report basic data_type block.now }
+    {
+        match data_type {
+            DATA_TYPE_ENGINEERING => Report::with_block(basic, block),
+            DATA_TYPE_BASIC => Report::without_block(basic, block),
+            _ => Err(Check::R6),
+        }
+    }
+
+    // Completes an engineering report: check R8.
+    fn with_block(basic: Basic, block: &[u8]) -> Result<Report, Check>
+        ensures checked { result ≡ completed_report basic 0x01 block.now }
+    {
+        let engineering = read_block(block)?;
+        Ok(Report::made(basic, true, engineering))
+    }
+
+    // Completes a basic report: check R7.
+    fn without_block(basic: Basic, block: &[u8]) -> Result<Report, Check>
+        ensures checked { result ≡ completed_report basic 0x02 block.now }
+    {
+        if !block.is_empty() {
+            return Err(Check::R7);
+        }
+        Ok(Report::made(basic, false, no_engineering()))
+    }
+
     // Reads the data of a report frame. Refuses with 2 if R6 is the first check that fails, with 1 if another is.
-    pub fn parse(data: &[u8]) -> ReportResult
+    pub fn parse(data: &[u8]) -> Result<Report, Error>
         ensures parsed { result ≡ parsed_report «data».now }
         ensures causes { Causes no_report report_checks «data».now (returned_report result) }
-        ensures calibration { Calibrated «data».now result.report }
+        ensures calibration { Calibrated «data».now (returned_report result).value }
     {
-        let checked = checked_report(data);
-        let failed = checked.failed;
-        let report = checked.report;
-        ReportResult {
-            outcome: failed.outcome(),
-            report,
-        }
+        Ok(checked_report(data)?)
     }
 }
 
 // Reads the data of a report frame, all between its length and its tail, by the checks R1 to R8 in this order.
-pub fn checked_report(data: &[u8]) -> CheckedReport
+pub fn checked_report(data: &[u8]) -> Result<Report, Check>
     ensures checked { result ≡ checked_report «data».now }
 {
-    let read = Layout::checked(data);
-    let CheckedLayout::Ok(layout) = read else {
-        return CheckedReport::failing(read.failed());
-    };
-    let basic = layout.basic;
+    let layout = Layout::checked(data)?;
     let end = data.len() - 2;
-    CheckedReport::completed(basic, layout.data_type, &data[BLOCK_AT..end])
-}
-
-// Returns a report whose fields are all 0, for a refusal or a frame that holds no report.
-pub fn no_report() -> Report
-    ensures zero { result ≡ no_report }
-{
-    Report {
-        state: TargetState::None,
-        moving_distance_cm: 0,
-        moving_energy: 0,
-        stationary_distance_cm: 0,
-        stationary_energy: 0,
-        detection_distance_cm: 0,
-        has_engineering: false,
-        engineering: no_engineering(),
-    }
+    Report::completed(layout.basic, layout.data_type, &data[BLOCK_AT..end])
 }

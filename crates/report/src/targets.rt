@@ -3,45 +3,34 @@ ghost use Rattle.std.specs.Prelude.{◌≡◌};
 ghost use Rattle.target_state.specs.State.{present_of};
 ghost use Rattle.report.specs.Report.{moving_target, stationary_target};
 
-use super::{MaybeTarget, Report, Target};
+use super::{Report, Target};
 
 impl Report {
     // Returns the moving target, if the state says that there is one.
-    pub fn moving(self) -> MaybeTarget
+    pub fn moving(self) -> Option<Target>
         ensures given { result ≡ moving_target self }
     {
-        let state = self.state;
-        if state.moving() {
-            MaybeTarget::Some(Target {
-                distance_cm: self.moving_distance_cm,
-                energy: self.moving_energy,
-            })
-        } else {
-            MaybeTarget::None
-        }
+        self.state.moving().then_some(Target {
+            distance_cm: self.moving_distance_cm,
+            energy: self.moving_energy,
+        })
     }
 
     // Returns the stationary target, if the state says that there is one.
-    pub fn stationary(self) -> MaybeTarget
+    pub fn stationary(self) -> Option<Target>
         ensures given { result ≡ stationary_target self }
     {
-        let state = self.state;
-        if state.stationary() {
-            MaybeTarget::Some(Target {
-                distance_cm: self.stationary_distance_cm,
-                energy: self.stationary_energy,
-            })
-        } else {
-            MaybeTarget::None
-        }
+        self.state.stationary().then_some(Target {
+            distance_cm: self.stationary_distance_cm,
+            energy: self.stationary_energy,
+        })
     }
 
     // Tests whether any target is present.
     pub fn present(self) -> bool
         ensures told { result ≡ present_of self.state }
     {
-        let state = self.state;
-        state.present()
+        self.state.present()
     }
 
     // Tests whether the report came from engineering mode.
