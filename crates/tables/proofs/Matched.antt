@@ -7,10 +7,10 @@ use native.Mathlib.Omega.{arith}
 use lib.Dec.{eqb, ltb, lit<}
 use lib.ListN.{get_or}
 use borrow.Author.Tests.{eqb-true, ltb-true, ltb-false, eq-eqb, ne_eqb}
+use Rattle.std.specs.Prelude.{Some, None}
 use Rattle.wire.specs.Family.{header, tail}
 use Rattle.wire.specs.declared.Kind.{Kind}
 use Rattle.wire.specs.declared.Kind.TheVariants.{Report, Command}
-use Rattle.wire.specs.declared.MaybeKind.TheVariants.{Some, None}
 use Rattle.tables.specs.Table.{marks, class_of, header_state, tail_state, first_next, next_of, Classes, Nexts}
 use Rattle.tables.specs.Matching.{Unmarked, OneEach, header_whole, tail_whole, first_as, first_state}
 use Rattle.tables.specs.Matching.{Matching, on_byte}

@@ -5,12 +5,11 @@
 --   first_state b    the state after the byte b, tried as the first of a header; first_as, by the family that it begins
 --   Matching next   next s b, the state after the matching state s on the byte b, matches the headers and the tails
 --   on_byte u        the state that the second table u gives after a matching state, by the class of a byte
-use Rattle.std.specs.Prelude.{◌≡◌, List, [], ℕ, suc, ◌<◌, get_or}
+use Rattle.std.specs.Prelude.{◌≡◌, List, [], ℕ, suc, ◌<◌, get_or, Some, None}
+use Rattle.std.specs.declared.option.Option.{Option}
 use Rattle.wire.specs.Family.{header, tail, starting_with}
 use Rattle.wire.specs.declared.Kind.{Kind}
 use Rattle.wire.specs.declared.Kind.TheVariants.{Report, Command}
-use Rattle.wire.specs.declared.MaybeKind.{MaybeKind}
-use Rattle.wire.specs.declared.MaybeKind.TheVariants.{Some, None}
 use Rattle.tables.specs.Table.{class_of, header_state, tail_state}
 
 pub record Unmarked (b : ℕ) : Type 0 where
@@ -32,7 +31,7 @@ abbrev pub tail_whole : Kind → ℕ
 tail_whole Report = 24
 tail_whole Command = 28
 
-abbrev pub first_as : MaybeKind → ℕ
+abbrev pub first_as : Option Kind → ℕ
 first_as (Some k) = header_state k 1
 first_as None = header_state Report 0
 
