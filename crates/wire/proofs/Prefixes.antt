@@ -1,11 +1,12 @@
 -- Copies of a byte string into another, by how much of it fits.
 use mathlib.Core.Path.{◌≡◌, ◌∙◌}
 use mathlib.Core.List.{List, [], ◌∷◌, ◌++◌, append-nil, append_assoc}
-use Prim.Native.Nat.{ℕ, zero, suc, ◌+◌, ◌-◌, ◌≤◌, min}
+use Prim.Native.Nat.{ℕ, zero, suc, ◌+◌, ◌-◌, ◌≤◌, ◌<◌, min}
 use native.Mathlib.Nat.{zero-add, sub-zero}
+use native.Mathlib.Numerals.{add-one}
 use native.Mathlib.Omega.{arith}
-use lib.ListN.{length, take, drop, replicate, length-replicate, drop_of_length-le}
-use lib.Seq.{take-nil, drop-nil, paste-zero}
+use lib.ListN.{length, take, drop, set, get_or, replicate, length-replicate, drop_of_length-le}
+use lib.Seq.{take-nil, drop-nil, paste-zero, paste-suc}
 use borrow.Rule.Slice.PartMut.{post_of, Post-is}
 use Rattle.wire.specs.Prefix.{over, pasted, prefixed, padded}
 
@@ -16,6 +17,16 @@ min_suc m n = omega arith
 pub over_nil : (d : List ℕ) (i : ℕ) (s : List ℕ) → d ≡ over d i s 0
 unfolding over
 over_nil d i s = paste-zero d i s
+
+-- One more byte is copied, to the front.
+pub over_more : (d : List ℕ) (i : ℕ) (s : List ℕ) (n : ℕ) → i + n < length d → n < length s
+    → set (over d i s n) (i + n) (get_or s n 0) ≡ over d i s (n + 1)
+unfolding over
+over_more d i s n h k = rw (add-one n) (paste-suc d i s n 0 h k)
+
+pub front_more : (d s : List ℕ) (n : ℕ) → n < length d → n < length s
+    → set (over d 0 s n) n (get_or s n 0) ≡ over d 0 s (n + 1)
+front_more d s n h k = simp zero-add at (over_more d 0 s n (omega arith) k)
 
 -- As many as fit are copied; none if the place is past the end.
 pub pasted_over : (d : List ℕ) (i : ℕ) (s : List ℕ) (n : ℕ) → n ≡ min (length d - i) (length s)

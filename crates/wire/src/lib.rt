@@ -58,6 +58,19 @@ pub fn gate_values(bytes: [u8; GATES], count: usize) -> GateValues
     }
 }
 
+// Returns the first bytes of `src` in an array with a place for each gate, 0 where `src` has none. It moves nine bytes
+// at most, so a byte counts them.
+pub fn gate_array(src: &[u8]) -> [u8; GATES]
+    ensures copied { result ≡ padded 9 src.now }
+{
+    let mut bytes = [0; GATES];
+    let count = src.len().min(GATES) as u8;
+    for gate in 0..count {
+        bytes[gate as usize] = src[gate as usize];
+    }
+    bytes
+}
+
 // Returns the first bytes of `src` in an array of `N`, with zeros after them if `src` has fewer.
 pub fn zero_padded<const N: usize>(src: &[u8]) -> [u8; N]
     ensures copied { result ≡ padded N src.now }
