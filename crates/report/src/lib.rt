@@ -70,6 +70,7 @@ impl Report {
     }
 
     // Completes the report by its type and the bytes after the basic ones: checks R6 to R8.
+    #[tactic(auto, unfolding(crate::specs::Check::completed_report))]
     fn completed(basic: Basic, data_type: u8, block: &[u8]) -> Result<Report, Check>
         ensures checked { result ≡ completed_report basic data_type block.now }
     {
@@ -81,6 +82,7 @@ impl Report {
     }
 
     // Completes an engineering report: check R8.
+    #[tactic(auto, unfolding(crate::specs::Check::completed_report, engineering::specs::Block::checked_block))]
     fn with_block(basic: Basic, block: &[u8]) -> Result<Report, Check>
         ensures checked { result ≡ completed_report basic 0x01 block.now }
     {
@@ -89,6 +91,7 @@ impl Report {
     }
 
     // Completes a basic report: check R7.
+    #[tactic(auto, unfolding(crate::specs::Check::completed_report))]
     fn without_block(basic: Basic, block: &[u8]) -> Result<Report, Check>
         ensures checked { result ≡ completed_report basic 0x02 block.now }
     {
@@ -99,6 +102,7 @@ impl Report {
     }
 
     // Reads the data of a report frame. Refuses with 2 if R6 is the first check that fails, with 1 if another is.
+    #[tactic(auto, unfolding(crate::specs::Check::parsed_report))]
     pub fn parse(data: &[u8]) -> Result<Report, Error>
         ensures parsed { result ≡ parsed_report «data».now }
         ensures causes { Causes no_report report_checks «data».now (returned_report result) }
