@@ -10,7 +10,7 @@ ghost use Rattle.engineering.specs.Block.{extra_count, checked_block, no_enginee
 
 use gates::Gates;
 use refusal::Check;
-use wire::{GATES, GateValues, MAX_EXTRA, gate_values, zero_padded};
+use wire::{GATES, GateValues, MAX_EXTRA, gate_array, gate_values, zero_padded};
 
 // The largest number that `extra_len` counts.
 const EXTRA_LEN_MAX: usize = 255;
@@ -102,8 +102,8 @@ pub fn read_block(block: &[u8]) -> Result<Engineering, Check>
     Ok(Engineering {
         moving_gates: gates.moving,
         stationary_gates: gates.stationary,
-        moving_energy: zero_padded(&block[2..moving_end]),
-        stationary_energy: zero_padded(&block[moving_end..stationary_end]),
+        moving_energy: gate_array(&block[2..moving_end]),
+        stationary_energy: gate_array(&block[moving_end..stationary_end]),
         extra: zero_padded(reserved),
         extra_len: extra_count(reserved),
     })

@@ -6,7 +6,7 @@ ghost use Rattle.reply.specs.Parameters.{parameters_reply, valid_gates};
 
 use crate::parameters_head::ParametersHead;
 use refusal::Error;
-use wire::{GATES, GateValues, gate_values, le16, zero_padded};
+use wire::{GATES, GateValues, gate_array, gate_values, le16};
 
 // Where the moving sensitivities start in a parameters payload.
 const MOVING_AT: usize = 4;
@@ -68,8 +68,8 @@ pub fn read_parameters(payload: &[u8]) -> Result<Parameters, Error>
         max_gate: head.max_gate,
         max_moving_gate: head.max_moving_gate,
         max_stationary_gate: head.max_stationary_gate,
-        moving_sensitivity: zero_padded(&payload[MOVING_AT..stationary_at]),
-        stationary_sensitivity: zero_padded(&payload[stationary_at..seconds_at]),
+        moving_sensitivity: gate_array(&payload[MOVING_AT..stationary_at]),
+        stationary_sensitivity: gate_array(&payload[stationary_at..seconds_at]),
         no_one_secs,
     })
 }
