@@ -4,15 +4,11 @@
 --   value_bytes v      the bytes of a value
 --   data_with w v      the data of a frame: the word w, then the value v; frame_with w v is the frame
 --   size_with v        the size of a frame with the value v
---   parts h t w v     what is put for the frame, in turn, between the header h and the tail t
---   whole_at at n      the answer if the parts end at place at: the bytes written, if at is the n needed; else 4
-use Rattle.std.specs.Prelude.{List, [], ◌∷◌, ◌++◌, cond, ℕ, ◌+◌, eqb, length}
-use Rattle.refusal.specs.declared.Error.TheVariants.{BufferTooSmall}
+--   parts w v          what is put for the frame, in turn
+use Rattle.std.specs.Prelude.{List, [], ◌∷◌, ◌++◌, ℕ, ◌+◌, length}
 use Rattle.wire.specs.Number.{le_bytes}
-use Rattle.wire.specs.Family.{framed}
+use Rattle.wire.specs.Family.{header, tail, framed}
 use Rattle.wire.specs.declared.Kind.TheVariants.{Command}
-use Rattle.writer.specs.declared.WriteResult.{WriteResult}
-use Rattle.writer.specs.declared.WriteResult.TheVariants.{Ok, Err}
 use Rattle.cursor.specs.Parts.{joined}
 use Rattle.cursor.specs.declared.command_frame.Value.{Value}
 use Rattle.cursor.specs.declared.command_frame.Value.TheVariants as Of
@@ -40,8 +36,6 @@ size_with Of.None = 12
 size_with (Of.Number v) = 14
 size_with (Of.Records a b c) = 30
 
-abbrev pub parts : List ℕ → List ℕ → ℕ → Value → List (List ℕ)
-parts h t w v = h ∷ le_bytes 2 (2 + length (value_bytes v)) ∷ le_bytes 2 w ∷ (value_parts v ++ (t ∷ []))
-
-abbrev pub whole_at : ℕ → ℕ → WriteResult
-whole_at at n = cond (eqb at n) (Ok at) (Err (BufferTooSmall n))
+abbrev pub parts : ℕ → Value → List (List ℕ)
+parts w v =
+    header Command ∷ le_bytes 2 (2 + length (value_bytes v)) ∷ le_bytes 2 w ∷ (value_parts v ++ (tail Command ∷ []))

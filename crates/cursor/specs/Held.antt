@@ -4,28 +4,27 @@
 --   puts c b      the answer of the put of the bytes b into the slice of the cursor c, at its position
 --   told c b      the answer of the cursor c to them
 --   moved c b     the cursor afterwards: the same slice, with b put into it, and the next position
-use Rattle.std.specs.Prelude.{List, ℕ}
+use Rattle.std.specs.Prelude.{List, ℕ, Some, None, Ok, Err}
+use Rattle.std.specs.declared.option.Option.{Option}
+use Rattle.std.specs.declared.result.Result.{Result}
 use denote.Ref.{at_last}
+use Rattle.refusal.specs.declared.Error.{Error}
 use Rattle.refusal.specs.declared.Error.TheVariants.{BufferTooSmall}
 use Rattle.writer.specs.Put.{placed, put_in}
-use Rattle.writer.specs.declared.puts.Placed.{Placed}
-use Rattle.writer.specs.declared.puts.Placed.TheVariants.{End, TooSmall}
-use Rattle.writer.specs.declared.WriteResult.{WriteResult}
-use Rattle.writer.specs.declared.WriteResult.TheVariants.{Ok, Err}
 use Rattle.cursor.specs.declared.Cursor.{Cursor}
 
-abbrev pub next_at : ℕ → Placed → ℕ
-next_at at (End end) = end
-next_at at TooSmall = at
+abbrev pub next_at : ℕ → Option ℕ → ℕ
+next_at at (Some end) = end
+next_at at None = at
 
-abbrev pub told_by : ℕ → Placed → WriteResult
-told_by needed (End end) = Ok end
-told_by needed TooSmall = Err (BufferTooSmall needed)
+abbrev pub told_by : ℕ → Option ℕ → Result ℕ Error
+told_by needed (Some end) = Ok end
+told_by needed None = Err (BufferTooSmall needed)
 
-abbrev pub puts : Cursor → List ℕ → Placed
+abbrev pub puts : Cursor → List ℕ → Option ℕ
 puts c b = placed c.out.now c.pos b
 
-abbrev pub told : Cursor → List ℕ → WriteResult
+abbrev pub told : Cursor → List ℕ → Result ℕ Error
 told c b = told_by c.needed (puts c b)
 
 abbrev pub moved : Cursor → List ℕ → Cursor

@@ -15,7 +15,7 @@ ghost use Rattle.cursor.specs.Held.{next_at, told_by, told, moved};
 
 pub use command_frame::{Value, put_value};
 use refusal::Error;
-use writer::{Placed, WriteResult, put, put_record, put_u16};
+use writer::{put, put_record, put_u16};
 
 // The caller's slice, the position of the next byte in it, and the bytes needed in all, which a refusal gives.
 #[derive(Drop)]
@@ -31,62 +31,47 @@ impl<'a> Cursor<'a> {
         ensures made { (result.out ≡ out.entry) × (result.pos ≡ 0) × (result.needed ≡ needed) }
     {
         Cursor {
-            out: out,
+            out,
             pos: 0,
-            needed: needed,
+            needed,
         }
     }
 
     // Puts the bytes.
-    fn put(&mut self, bytes: &[u8]) -> WriteResult
+    fn put(&mut self, bytes: &[u8]) -> Result<usize, Error>
         ensures told { result ≡ told self.old bytes.now }
         ensures left { self.new ≡ moved self.old bytes.now }
     {
-        let at = self.pos;
-        let p = put(&mut *self.out, at, bytes);
-        self.pos = after(at, p);
-        tell(self.needed, p)
+        let end = put(&mut *self.out, self.pos, bytes);
+        self.step(end)
     }
 
     // Puts a two-byte number.
-    fn u16(&mut self, v: u16) -> WriteResult
+    fn u16(&mut self, v: u16) -> Result<usize, Error>
         ensures told { result ≡ told self.old (le_bytes 2 v) }
         ensures left { self.new ≡ moved self.old (le_bytes 2 v) }
     {
-        let at = self.pos;
-        let p = put_u16(&mut *self.out, at, v);
-        self.pos = after(at, p);
-        tell(self.needed, p)
+        let end = put_u16(&mut *self.out, self.pos, v);
+        self.step(end)
     }
 
     // Puts a record: a parameter's number in two bytes, its value in four.
-    fn record(&mut self, param: u16, value: u32) -> WriteResult
+    fn record(&mut self, param: u16, value: u32) -> Result<usize, Error>
         ensures told { result ≡ told self.old (le_bytes 2 param ++ le_bytes 4 value) }
         ensures left { self.new ≡ moved self.old (le_bytes 2 param ++ le_bytes 4 value) }
     {
-        let at = self.pos;
-        let p = put_record(&mut *self.out, at, param, value);
-        self.pos = after(at, p);
-        tell(self.needed, p)
+        let end = put_record(&mut *self.out, self.pos, param, value);
+        self.step(end)
     }
-}
 
-// Returns the position after a put at `at` that answered `p`.
-fn after(at: usize, p: Placed) -> usize
-    ensures next { result ≡ next_at at p }
-{
-    match p {
-        Placed::End(end) => end,
-        Placed::TooSmall => at,
-    }
-}
-
-// Turns a put's answer `p` into the cursor's: the position after it, or 4 with the bytes `needed` in all.
-fn tell(needed: usize, p: Placed) -> WriteResult
-    ensures told { result ≡ told_by needed p }
-{
-    match p {
-        Placed::End(end) => WriteResult::Ok(end),
-        Placed::TooSmall => WriteResult::Err(Error::BufferTooSmall { needed }),
+    // Moves to the place after a put, or refuses with 4 if the put answered none.
+    fn step(&mut self, end: Option<usize>) -> Result<usize, Error>
+        ensures told { result ≡ told_by self.old.needed end }
+        ensures left { self.new ≡ record self.old { pos = next_at self.old.pos end } }
+    {
+        self.pos = end.unwrap_or(self.pos);
+        end.ok_or(Error::BufferTooSmall {
+            needed: self.needed,
+        })
     }
 }
