@@ -1,6 +1,4 @@
 -- Laws about the definitions, which the proofs of this crate and of the crates above cite.
--- What the data of a frame are read as, by its kind.
-pub mod Bodies
 -- The answer to the envelope, by its checks, and what it means.
 pub mod Opened
 -- A frame passes the checks of the envelope, and bytes that pass them are a frame.

@@ -18,6 +18,7 @@ pub struct Envelope {
 impl Envelope {
     // Makes the checks F1 to F4, and gives the first that fails. The stream's limits on the length do not hold here:
     // the data may have 0 to 65,535 bytes.
+    #[tactic(auto, using(crate::proofs::Opened::short_family, crate::proofs::Opened::fails_F1, crate::proofs::Opened::fails_F2, crate::proofs::Opened::fails_F3, crate::proofs::Opened::fails_F4, crate::proofs::Opened::passes))]
     pub fn open(bytes: &[u8]) -> Result<Envelope, Check>
         ensures opened { result ≡ envelope bytes.now }
     {

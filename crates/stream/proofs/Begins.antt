@@ -12,7 +12,7 @@ use Rattle.wire.specs.Family.{header, tail, starting_with, framed}
 use Rattle.wire.specs.Bytes.{Bytes}
 use Rattle.wire.specs.declared.Kind.{Kind}
 use Rattle.wire.specs.declared.Kind.TheVariants.{Report, Command}
-use Rattle.wire.specs.declared.MaybeKind.TheVariants.{Some, None}
+use Rattle.std.specs.Prelude.{Some, None}
 use Rattle.wire.proofs.Families.{header_length}
 use Rattle.wire.proofs.Bytes.{bytes_drop, le_bytes_little}
 use Rattle.stream.specs.Length.{InRange}

@@ -9,8 +9,8 @@ use lib.ListN.{length, drop}
 use Rattle.wire.specs.Number.{little}
 use Rattle.wire.specs.Family.{header, tail, starting_with}
 use Rattle.wire.specs.declared.Kind.{Kind}
-use Rattle.wire.specs.declared.MaybeKind.{MaybeKind}
-use Rattle.wire.specs.declared.MaybeKind.TheVariants.{Some, None}
+use Rattle.std.specs.declared.option.Option.{Option}
+use Rattle.std.specs.Prelude.{Some, None}
 use Rattle.framing.proofs.Tests.{T_and}
 use Rattle.stream.specs.Length.{in_range}
 use Rattle.stream.proofs.Scan.{after, at_end, reads_length, reads, reads_as, opens}
@@ -57,7 +57,7 @@ module _ (limit : ℕ) (k : Kind) where
 
 -- The same for the kind that the first byte announces, if any.
 module _ (limit : ℕ) where
-  as_prefix : (o : MaybeKind) (s t : List ℕ) → T (reads_as true limit o (s ++ t)) → T (reads_as true limit o s)
+  as_prefix : (o : Option Kind) (s t : List ℕ) → T (reads_as true limit o (s ++ t)) → T (reads_as true limit o s)
   as_prefix (Some k) s t h = reads_prefix limit k s t h
   as_prefix None s t h = h
 

@@ -13,8 +13,8 @@ use Rattle.wire.specs.Number.{little}
 use Rattle.wire.specs.Family.{header, tail, starting_with}
 use Rattle.wire.specs.declared.Kind.{Kind}
 use Rattle.wire.specs.declared.Kind.TheVariants.{Report}
-use Rattle.wire.specs.declared.MaybeKind.{MaybeKind}
-use Rattle.wire.specs.declared.MaybeKind.TheVariants.{Some, None}
+use Rattle.std.specs.declared.option.Option.{Option}
+use Rattle.std.specs.Prelude.{Some, None}
 use Rattle.framing.proofs.Tests.{T_and}
 use Rattle.stream.specs.Open.{Prefix, Open, in_header, in_length, in_data, in_tail}
 use Rattle.stream.specs.Length.{InRange, in_range}
@@ -52,7 +52,7 @@ module _ (limit : ℕ) (k : Kind) where
       (after_sound true (header k) (reads_length true limit k) s h)
 
 module _ (limit : ℕ) where
-  as_sound : (o : MaybeKind) (s : List ℕ) → T (reads_as true limit o s) → Open limit s
+  as_sound : (o : Option Kind) (s : List ℕ) → T (reads_as true limit o s) → Open limit s
   as_sound (Some k) s h = reads_sound limit k s h
   as_sound None s h = absurd h
 

@@ -11,8 +11,8 @@ use lib.ListN.{drop}
 use Rattle.wire.specs.Number.{little}
 use Rattle.wire.specs.Family.{header, tail, starting_with}
 use Rattle.wire.specs.declared.Kind.{Kind}
-use Rattle.wire.specs.declared.MaybeKind.{MaybeKind}
-use Rattle.wire.specs.declared.MaybeKind.TheVariants.{Some, None}
+use Rattle.std.specs.declared.option.Option.{Option}
+use Rattle.std.specs.Prelude.{Some, None}
 use Rattle.stream.specs.Length.{in_range}
 
 abbrev pub after : Bool → List ℕ → (List ℕ → Bool) → List ℕ → Bool
@@ -34,7 +34,7 @@ reads_length cut limit k (lo ∷ hi ∷ s) = in_range limit (little (lo ∷ hi �
 unfoldable pub reads : Bool → ℕ → Kind → List ℕ → Bool
 reads cut limit k s = after cut (header k) (reads_length cut limit k) s
 
-abbrev pub reads_as : Bool → ℕ → MaybeKind → List ℕ → Bool
+abbrev pub reads_as : Bool → ℕ → Option Kind → List ℕ → Bool
 reads_as cut limit (Some k) s = reads cut limit k s
 reads_as cut limit None s = false
 

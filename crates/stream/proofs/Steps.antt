@@ -13,8 +13,8 @@ use Rattle.wire.specs.Family.{header, tail, starting_with}
 use Rattle.wire.proofs.Families.{tail_length}
 use Rattle.wire.specs.declared.Kind.{Kind}
 use Rattle.wire.specs.declared.Kind.TheVariants.{Report, Command}
-use Rattle.wire.specs.declared.MaybeKind.{MaybeKind}
-use Rattle.wire.specs.declared.MaybeKind.TheVariants.{Some, None}
+use Rattle.std.specs.declared.option.Option.{Option}
+use Rattle.std.specs.Prelude.{Some, None}
 use Rattle.stream.specs.Length.{in_range}
 use Rattle.stream.proofs.Scan.{after, at_end, reads_length, reads, reads_as, opens, wholes}
 use Rattle.stream.proofs.Headers.{opens_header, wholes_header}
@@ -76,7 +76,7 @@ module _ (limit : ℕ) where
   unfolding opens
   start_strays b e = rw e
 
-  one_missing : (o : MaybeKind) (b : ℕ) → reads_as false limit o (b ∷ []) ≡ false
+  one_missing : (o : Option Kind) (b : ℕ) → reads_as false limit o (b ∷ []) ≡ false
   unfolding reads
   one_missing (Some Report) b = and-false (eqb b 0xF4)
   one_missing (Some Command) b = and-false (eqb b 0xFD)

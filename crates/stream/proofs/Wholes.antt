@@ -12,8 +12,8 @@ use Rattle.wire.specs.Number.{little}
 use Rattle.wire.specs.Family.{header, tail, starting_with}
 use Rattle.wire.proofs.Families.{tail_length}
 use Rattle.wire.specs.declared.Kind.{Kind}
-use Rattle.wire.specs.declared.MaybeKind.{MaybeKind}
-use Rattle.wire.specs.declared.MaybeKind.TheVariants.{Some, None}
+use Rattle.std.specs.declared.option.Option.{Option}
+use Rattle.std.specs.Prelude.{Some, None}
 use Rattle.framing.proofs.Tests.{T_and}
 use Rattle.stream.specs.Open.{Whole}
 use Rattle.stream.specs.Length.{InRange, in_range}
@@ -53,7 +53,7 @@ module _ (limit : ℕ) (k : Kind) where
       (after_sound false (header k) (reads_length false limit k) s h)
 
 module _ (limit : ℕ) where
-  as_whole : (o : MaybeKind) (s : List ℕ) → T (reads_as false limit o s) → Whole limit s
+  as_whole : (o : Option Kind) (s : List ℕ) → T (reads_as false limit o s) → Whole limit s
   as_whole (Some k) s h = reads_whole limit k s h
   as_whole None s h = absurd h
 
