@@ -10,17 +10,15 @@ pub struct Span {
 }
 
 // Returns the bytes of a payload, or none if the span is not inside `bytes`. A span may have any two numbers, whose sum
-// need not fit, so its start and its length are compared one by one.
+// need not fit.
 pub(crate) fn payload<'a>(bytes: &'a [u8], span: Span) -> &'a [u8]
     ensures found { result.now ≡ payload_in bytes.now span }
 {
-    let start = span.start;
-    let len = span.len;
-    if bytes.len() < start {
+    let Some(rest) = bytes.get(span.start..) else {
         return &bytes[..0];
-    }
-    if bytes.len() - start < len {
+    };
+    let Some(payload) = rest.get(..span.len) else {
         return &bytes[..0];
-    }
-    &bytes[start..start + len]
+    };
+    payload
 }

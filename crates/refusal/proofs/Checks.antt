@@ -6,12 +6,15 @@ use mathlib.Core.Bool.{Bool, true, false}
 use Prim.Native.Nat.{ℕ}
 use native.Mathlib.Omega.{arith}
 use Rattle.refusal.specs.Refusal.{accepted, refused, or_error, returned}
+use Rattle.refusal.specs.declared.Error.{Error}
 use Rattle.refusal.specs.declared.Error.TheVariants.{InvalidFormat, Unsupported}
-use Rattle.refusal.specs.Check.{Checks, or_failed, first_failed, Passes, FailsFirst, error_of, told_by, Causes}
+use Rattle.refusal.specs.Check.{Checks, or_failed, first_failed, Passes, FailsFirst, error_of, checked_by, told_by}
+use Rattle.refusal.specs.Check.{Causes}
 use Rattle.refusal.specs.declared.Check.{Check}
 use Rattle.refusal.specs.declared.Check.TheVariants.{F1, F2, F3, F4, R1, R2, R3, R4, R5, R6, R7, R8, A1, A2}
 use Rattle.std.specs.Prelude.{Some, None, Ok, Err}
 use Rattle.std.specs.declared.option.Option.{Option}
+use Rattle.std.specs.declared.result.Result.{Result}
 
 module _ (s : List ℕ) where
   pub passes_complete : (cs : Checks) → Passes cs s → first_failed cs s ≡ None
@@ -155,3 +158,7 @@ module _ (cs : Checks) (s : List ℕ) where
     -- other field is 0.
     pub causes : Causes z cs s (returned z (told_by (or_error (first_failed cs s) v)))
     causes = causes_of (first_failed cs s) refl
+
+    -- The same for the code's answer r.
+    pub causes_told : (r : Result A Error) → r ≡ told_by (checked_by cs s v) → Causes z cs s (returned z r)
+    causes_told r e = rw e causes

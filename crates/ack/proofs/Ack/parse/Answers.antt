@@ -1,12 +1,14 @@
--- `ack::Ack::parse` meets its contract, by the answer of `checked_ack`. Assumes nothing.
-use mathlib.Core.Path.{refl, ap}
-use Rattle.ack.specs.declared.CheckedAck.TheVariants as Checked
-use Rattle.ack.specs.declared.AckResult.TheVariants.{Err}
-use Rattle.ack.proofs.AckChecked.{parsed_whole}
+-- `ack::Ack::parse` meets its contract: the first check that fails is the cause. Assumes nothing.
+use Rattle.std.proofs.Common.{rules}
+use Rattle.std.specs.Prelude.{Ok}
+use Rattle.refusal.proofs.Checks.{causes_told}
+use Rattle.ack.specs.Ack.{ack_checks, ack_of, checked_ack, parsed_ack, no_ack}
 use Rattle.ack.proofs.Ack.parse.Goals as goal
 
-pub returns-in-Ok : goal.returns-in-Ok
-returns-in-Ok c = parsed_whole _ {k = Checked.Ok _} (cc) refl
+pub returns-in_err-checked_ack-clause-causes : goal.returns-in_err-checked_ack-clause-causes
+unfolding checked_ack parsed_ack
+returns-in_err-checked_ack-clause-causes c = causes_told _ _ _ (ack_of c.args.data.now) c.from_residual.result (search rules)
 
-pub returns-in-Failed : goal.returns-in-Failed
-returns-in-Failed c = parsed_whole _ {k = Checked.Failed c.in-Failed.check} (cc) (ap Err c.error.ensures.refused)
+pub returns-clause-causes : goal.returns-clause-causes
+unfolding checked_ack parsed_ack
+returns-clause-causes c = causes_told _ _ _ (ack_of c.args.data.now) (Ok c.in_ok-checked_ack.field-0) (search rules)
