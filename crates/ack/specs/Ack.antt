@@ -44,7 +44,7 @@ ack_of s = record {
 unfoldable pub checked_ack : List ℕ → Result Ack Check
 checked_ack s = checked_by ack_checks s (ack_of s)
 
-unfoldable pub parsed_ack : List ℕ → Result Ack Error
+abbrev pub parsed_ack : List ℕ → Result Ack Error
 parsed_ack s = told_by (checked_ack s)
 
 abbrev pub no_ack : Ack

@@ -16,7 +16,7 @@ use Rattle.ack.specs.Span.{payload_in}
 use Rattle.ack.specs.declared.span.Span.{Span}
 use Rattle.ack.specs.declared.Ack.{Ack}
 
-unfoldable pub awaited : Ack → ℕ → Bool → Option Error
+abbrev pub awaited : Ack → ℕ → Bool → Option Error
 awaited a w readable = judged (eqb a.word w) a.ok readable
 
 pub record AwaitedCauses {A : Type 0} (z : A) (a : Ack) (w : ℕ) (readable : Bool) (r : Returned A) : Type 0 where
@@ -32,13 +32,13 @@ pub record AwaitedCauses {A : Type 0} (z : A) (a : Ack) (w : ℕ) (readable : Bo
   pub blank : r.number ≢ 0 → r ≡ record { number = r.number; needed = 0; value = z }
 
 -- `expect` gives the span and reads no payload, so none is too short.
-unfoldable pub expected : Ack → ℕ → Result Span Error
+abbrev pub expected : Ack → ℕ → Result Span Error
 expected a w = or_error (awaited a w true) a.payload
 
 abbrev pub no_span : Span
 no_span = record { start = 0; len = 0 }
 
-unfoldable pub replied : {A : Type 0} → Reply A → Ack → List ℕ → Result A Error
+abbrev pub replied : {A : Type 0} → Reply A → Ack → List ℕ → Result A Error
 replied r a s = or_error (awaited a r.word (r.readable (payload_in s a.payload))) (r.value (payload_in s a.payload))
 
 abbrev pub ReplyCauses : {A : Type 0} → A → Reply A → Ack → List ℕ → Returned A → Type 0

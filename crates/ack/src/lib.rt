@@ -2,20 +2,7 @@
 //
 // The Rust's `Ack` borrows its payload. Here an `Ack` has the payload's span, and a reply takes the bytes too.
 
-#![tactic(
-    auto,
-    unfolding(
-        crate::specs::Ack::checked_ack,
-        crate::specs::Ack::parsed_ack,
-        crate::specs::Ack::ack_of,
-        crate::specs::Awaited::expected,
-        crate::specs::Awaited::awaited,
-        crate::specs::Awaited::replied,
-        crate::specs::Span::payload_in,
-        reply::specs::Reply::reply_as,
-        wire::specs::Number::number_at
-    )
-)]
+#![tactic(auto, unfolding(crate::specs::Ack::checked_ack, crate::specs::Ack::ack_of, wire::specs::Number::number_at))]
 
 mod span;
 
@@ -76,7 +63,8 @@ impl Ack {
     // short payload.
     pub fn enable_config(self, bytes: &[u8]) -> Result<EnableConfig, Error>
         ensures answered { result ≡ replied enable_config_reply self bytes.now }
-        ensures causes { ReplyCauses no_enable_config enable_config_reply self bytes.now (returned no_enable_config result) }
+        ensures causes { ReplyCauses no_enable_config enable_config_reply self bytes.now
+            (returned no_enable_config result) }
     {
         let span = self.expect(word::ENABLE_CONFIG)?;
         read_enable_config(payload(bytes, span))

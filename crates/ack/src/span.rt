@@ -2,7 +2,8 @@
 ghost use Rattle.std.specs.Prelude.{◌≡◌};
 ghost use Rattle.ack.specs.Span.{payload_in};
 
-// The place of a payload in the bytes that hold it: its start and its length.
+// The place of a payload in the bytes that hold it: its start and its length. It stays two numbers, and no slice, since
+// `payload_in` answers any two: "a payload not inside them counts as empty".
 #[derive(Clone, Copy)]
 pub struct Span {
     pub start: usize,
@@ -11,6 +12,7 @@ pub struct Span {
 
 // Returns the bytes of a payload, or none if the span is not inside `bytes`. A span may have any two numbers, whose sum
 // need not fit.
+#[tactic(auto, unfolding(crate::specs::Span::payload_in))]
 pub(crate) fn payload<'a>(bytes: &'a [u8], span: Span) -> &'a [u8]
     ensures found { result.now ≡ payload_in bytes.now span }
 {

@@ -26,5 +26,5 @@ pub record Reply (A : Type 0) : Type 0 where
 abbrev pub sized : {A : Type 0} → ℕ → ℕ → (List ℕ → A) → Reply A
 sized w n value = record { word = w; readable = λ p. leb n (length p); value = value }
 
-unfoldable pub reply_as : {A : Type 0} → Reply A → List ℕ → Result A Error
+abbrev pub reply_as : {A : Type 0} → Reply A → List ℕ → Result A Error
 reply_as r p = or_error (judged true true (r.readable p)) (r.value p)

@@ -1,7 +1,7 @@
 // The replies that an acknowledgement's payload holds, by the command that it answers. Three of the four are read here,
 // the fourth in parameters.rt.
 
-#![tactic(auto, unfolding(crate::specs::Reply::reply_as, wire::specs::Number::number_at, wire::specs::Prefix::padded))]
+#![tactic(auto, unfolding(wire::specs::Number::number_at, wire::specs::Prefix::padded))]
 
 mod parameters;
 mod parameters_head;
