@@ -4,9 +4,10 @@
 --   moved_of limit c st buf b   the scan, the counters and the answer after the byte b
 --   run_moved r                 the scan, the counters and the answer after the run r
 --   slice_buf_of, slice_moved_of   buf_of and moved_of for a slice
-use Rattle.std.specs.Prelude.{List, ℕ, take}
-use Rattle.frame.specs.Frame.{no_frame, decoded}
-use Rattle.stream.specs.Deliver.{holds}
+use Rattle.std.specs.Prelude.{List, ℕ, take, Some, None, is_ok}
+use Rattle.std.specs.declared.option.Option.{Option}
+use Rattle.std.specs.Result.{result_ok}
+use Rattle.frame.specs.Frame.{decoded}
 use Rattle.scan.specs.Scan.{or_reset}
 use Rattle.step.specs.Step.{step_of, stored}
 use Rattle.scan.specs.Start.{counted}
@@ -14,16 +15,15 @@ use Rattle.step.specs.Slice.{Run, run_of}
 use Rattle.scan.specs.declared.Scan.{Scan}
 use Rattle.scan.specs.declared.stats.Stats.{Stats}
 use Rattle.scan.specs.declared.stats.Ended.{Ended}
-use Rattle.scan.specs.declared.stats.Ended.TheVariants as Is
 use Rattle.feed.specs.declared.feeding.Moved.{Moved}
 use Rattle.feed.specs.declared.feeding.MovedSlice.{MovedSlice}
 
-abbrev pub emitted : Ended → Scan → Stats → List ℕ → Moved
-emitted Is.Nothing c st buf = record { scan = c; stats = st; answer = no_frame }
-emitted (Is.Frame k n) c st buf = record {
+abbrev pub emitted : Option Ended → Scan → Stats → List ℕ → Moved
+emitted None c st buf = record { scan = c; stats = st; answer = None }
+emitted (Some e) c st buf = record {
   scan = c;
-  stats = counted (holds (decoded 4 k (take n buf)).failed) st;
-  answer = (decoded 4 k (take n buf)).frame;
+  stats = counted (is_ok (decoded 4 e.kind (take e.len buf))) st;
+  answer = result_ok (decoded 4 e.kind (take e.len buf));
 }
 
 unfoldable pub buf_of : ℕ → Scan → List ℕ → ℕ → List ℕ

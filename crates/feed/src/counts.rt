@@ -3,18 +3,18 @@ ghost use Rattle.std.specs.Prelude.{◌≡◌};
 ghost use Rattle.scan.specs.Start.{dropping, abandoned, start_of, counted};
 ghost use Rattle.feed.specs.States.{given_up};
 
-use scan::{Ended, Scan, State, Stats, Stepped, hunting};
-use wire::{Kind, MaybeKind, bump};
+use crate::scans::in_header;
+use scan::{Stats, Stepped, hunting};
+use wire::{Kind, bump};
 
 // Counts a frame in progress that is given up after `consumed` bytes.
 pub(crate) fn abandon(stats: Stats, consumed: usize) -> Stats
     ensures counted { result ≡ abandoned stats consumed }
 {
     Stats {
-        frames: stats.frames,
         resyncs: bump(stats.resyncs, 1),
         dropped: bump(stats.dropped, consumed),
-        malformed: stats.malformed,
+        ..stats
     }
 }
 
@@ -33,10 +33,8 @@ pub(crate) fn stray(stats: Stats) -> Stats
     ensures counted { result ≡ dropping stats 1 }
 {
     Stats {
-        frames: stats.frames,
-        resyncs: stats.resyncs,
         dropped: bump(stats.dropped, 1),
-        malformed: stats.malformed,
+        ..stats
     }
 }
 
@@ -47,16 +45,12 @@ pub(crate) fn count(stats: Stats, decodes: bool) -> Stats
     if decodes {
         Stats {
             frames: bump(stats.frames, 1),
-            resyncs: stats.resyncs,
-            dropped: stats.dropped,
-            malformed: stats.malformed,
+            ..stats
         }
     } else {
         Stats {
-            frames: stats.frames,
-            resyncs: stats.resyncs,
-            dropped: stats.dropped,
             malformed: bump(stats.malformed, 1),
+            ..stats
         }
     }
 }
@@ -66,26 +60,15 @@ pub(crate) fn start(stats: Stats, byte: u8) -> Stepped
     ensures started { result ≡ start_of stats byte }
 {
     match Kind::starting_with(byte) {
-        MaybeKind::Some(kind) => Stepped {
-            scan: Scan {
-                state: State::Header,
-                kind,
-                matched: 1,
-                len: 0,
-                pos: 0,
-            },
+        Some(kind) => Stepped {
+            scan: in_header(kind, 1),
             stats,
-            ended: Ended::Nothing,
+            ended: None,
         },
-        MaybeKind::None => Stepped {
+        None => Stepped {
             scan: hunting(),
-            stats: Stats {
-                frames: stats.frames,
-                resyncs: stats.resyncs,
-                dropped: bump(stats.dropped, 1),
-                malformed: stats.malformed,
-            },
-            ended: Ended::Nothing,
+            stats: stray(stats),
+            ended: None,
         },
     }
 }

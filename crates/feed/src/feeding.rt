@@ -1,31 +1,31 @@
 // Bytes fed into a lent buffer: the scan and the counters go on, and a frame that ended is decoded and counted.
-ghost use Rattle.std.specs.Prelude.{◌≡◌, List, ℕ, take};
+ghost use Rattle.std.specs.Prelude.{◌≡◌, List, ℕ, take, Some, None};
+ghost use Rattle.std.specs.Result.{result_ok};
 ghost use Rattle.frame.specs.Frame.{decoded};
 ghost use Rattle.stream.specs.Length.{link_limit};
-ghost use Rattle.stream.specs.Deliver.{is_frame};
-ghost use Rattle.scan.specs.Start.{counted};
 ghost use Rattle.feed.specs.Moved.{emitted, run_moved, buf_of, moved_of, slice_buf_of, slice_moved_of};
 
 use crate::counts::count;
-use crate::run::{run_at, step_at};
-use crate::table_run::{table_run_at, table_step_at};
-use frame::{Frame, FrameKind, decode_data, no_frame};
+use crate::engines::Engine;
+use crate::lookup::Tables;
+use crate::run::Branches;
+use frame::{Frame, decode_data};
 use scan::{Ended, Scan, Scanned, Stats, Stepped};
-use wire::{Kind, MAX_FRAME, min};
+use wire::MAX_FRAME;
 
 // The scan and the counters after a byte was fed, and the frame that it completed, if any.
 #[derive(Clone, Copy)]
 pub struct Moved {
     pub scan: Scan,
     pub stats: Stats,
-    pub answer: Frame,
+    pub answer: Option<Frame>,
 }
 
 // The number of bytes that a slice feed took, and the frame that they completed, if any.
 #[derive(Clone, Copy)]
 pub struct Taken {
     pub count: usize,
-    pub frame: Frame,
+    pub frame: Option<Frame>,
 }
 
 // The scan and the counters after a slice was fed, and its answer.
@@ -37,60 +37,43 @@ pub struct MovedSlice {
 }
 
 // Decodes the frame that ended, from its data at the front of the buffer.
-fn emit(buf: &[u8; MAX_FRAME], kind: Kind, len: usize) -> Frame
-    ensures emitted { result ≡ (decoded 4 kind (take len buf.now)).frame }
+fn emit(buf: &[u8; MAX_FRAME], ended: Ended) -> Option<Frame>
+    ensures emitted { result ≡ result_ok (decoded 4 ended.kind (take ended.len buf.now)) }
 {
-    let all: &[u8] = buf;
-    let n = min(len, MAX_FRAME);
-    let decoded = decode_data(kind, &all[..n]);
-    decoded.frame
-}
-
-// Counts the frame that ended; `frame` is no frame if it does not decode.
-fn tally(stats: Stats, frame: Frame) -> Stats
-    ensures counted { result ≡ counted (is_frame frame.kind) stats }
-{
-    let kind = frame.kind;
-    match kind {
-        FrameKind::None => count(stats, false),
-        FrameKind::Report | FrameKind::Ack => count(stats, true),
-    }
+    let n = ended.len.min(MAX_FRAME);
+    decode_data(ended.kind, &buf[..n]).ok()
 }
 
 // Returns the scan and the counters after a step, and the frame that it ended, decoded and counted.
 fn answered(buf: &[u8; MAX_FRAME], stepped: Stepped) -> Moved
     ensures answered { result ≡ emitted stepped.ended stepped.scan stepped.stats buf.now }
 {
-    let ended = stepped.ended;
-    let next = stepped.scan;
-    let counted = stepped.stats;
-    let Ended::Frame(kind, len) = ended else {
+    let Stepped { scan, stats, ended } = stepped;
+    let Some(ended) = ended else {
         return Moved {
-            scan: next,
-            stats: counted,
-            answer: no_frame(),
+            scan,
+            stats,
+            answer: None,
         };
     };
-    let answer = emit(buf, kind, len);
+    let answer = emit(buf, ended);
     Moved {
-        scan: next,
-        stats: tally(counted, answer),
+        scan,
+        stats: count(stats, answer.is_some()),
         answer,
     }
 }
 
 // Returns the same for the run of a slice that ended a frame. Each slice feed tests by itself whether one ended: tested
 // in a function that both engines share, it makes a called feed slower (bench/run).
-fn with_frame(buf: &[u8; MAX_FRAME], run: Scanned, kind: Kind, len: usize) -> MovedSlice
-    requires { run.ended ≡ Ended.Frame kind len }
+fn with_frame(buf: &[u8; MAX_FRAME], run: Scanned, ended: Ended) -> MovedSlice
+    requires { run.ended ≡ Some ended }
     ensures answered { result ≡ run_moved (record { scanned = run; buf = buf.now }) }
 {
-    let next = run.scan;
-    let counted = run.stats;
-    let frame = emit(buf, kind, len);
+    let frame = emit(buf, ended);
     MovedSlice {
-        scan: next,
-        stats: tally(counted, frame),
+        scan: run.scan,
+        stats: count(run.stats, frame.is_some()),
         answer: Taken {
             count: run.taken,
             frame,
@@ -100,18 +83,48 @@ fn with_frame(buf: &[u8; MAX_FRAME], run: Scanned, kind: Kind, len: usize) -> Mo
 
 // Returns the same for the run of a slice that ended no frame.
 fn without_frame(run: Scanned) -> MovedSlice
-    requires { run.ended ≡ Ended.Nothing }
+    requires { run.ended ≡ None }
     ensures answered { (buf : List ℕ) → result ≡ run_moved (record { scanned = run; buf = buf }) }
 {
-    let next = run.scan;
-    let counted = run.stats;
     MovedSlice {
-        scan: next,
-        stats: counted,
+        scan: run.scan,
+        stats: run.stats,
         answer: Taken {
             count: run.taken,
-            frame: no_frame(),
+            frame: None,
         },
+    }
+}
+
+// Feeds one byte, by the engine `E`, to the parser that the lent buffer, the scan and the counters make up.
+pub fn feed_by<E: Engine>(
+    buf: &mut [u8; MAX_FRAME],
+    scan: Scan,
+    stats: Stats,
+    byte: u8,
+) -> Moved
+    ensures moved { (result ≡ moved_of link_limit scan stats buf.old byte)
+        × (buf.new ≡ buf_of link_limit scan buf.old byte) }
+{
+    let stepped = E::step(buf, scan, stats, byte);
+    answered(buf, stepped)
+}
+
+// Feeds bytes, by the engine `E`, up to and including the end of the first whole frame, decoded or not, else all of
+// them.
+pub fn feed_slice_by<E: Engine>(
+    buf: &mut [u8; MAX_FRAME],
+    scan: Scan,
+    stats: Stats,
+    bytes: &[u8],
+) -> MovedSlice
+    ensures moved { (result ≡ slice_moved_of link_limit scan stats buf.old bytes.now)
+        × (buf.new ≡ slice_buf_of link_limit scan stats buf.old bytes.now) }
+{
+    let run = E::run(buf, scan, stats, bytes);
+    match run.ended {
+        Some(ended) => with_frame(buf, run, ended),
+        None => without_frame(run),
     }
 }
 
@@ -120,8 +133,7 @@ pub fn feed_at(buf: &mut [u8; MAX_FRAME], scan: Scan, stats: Stats, byte: u8) ->
     ensures moved { (result ≡ moved_of link_limit scan stats buf.old byte)
         × (buf.new ≡ buf_of link_limit scan buf.old byte) }
 {
-    let stepped = step_at(buf, scan, stats, byte);
-    answered(buf, stepped)
+    feed_by::<Branches>(buf, scan, stats, byte)
 }
 
 // Feeds bytes up to and including the end of the first whole frame, decoded or not, else all of them.
@@ -134,12 +146,7 @@ pub fn feed_slice_at(
     ensures moved { (result ≡ slice_moved_of link_limit scan stats buf.old bytes.now)
         × (buf.new ≡ slice_buf_of link_limit scan stats buf.old bytes.now) }
 {
-    let run = run_at(buf, scan, stats, bytes);
-    let ended = run.ended;
-    match ended {
-        Ended::Frame(kind, len) => with_frame(buf, run, kind, len),
-        Ended::Nothing => without_frame(run),
-    }
+    feed_slice_by::<Branches>(buf, scan, stats, bytes)
 }
 
 // Feeds one byte as `feed_at` does, by the table engine.
@@ -147,8 +154,7 @@ pub fn table_feed_at(buf: &mut [u8; MAX_FRAME], scan: Scan, stats: Stats, byte: 
     ensures moved { (result ≡ moved_of link_limit scan stats buf.old byte)
         × (buf.new ≡ buf_of link_limit scan buf.old byte) }
 {
-    let stepped = table_step_at(buf, scan, stats, byte);
-    answered(buf, stepped)
+    feed_by::<Tables>(buf, scan, stats, byte)
 }
 
 // Feeds bytes as `feed_slice_at` does, by the table engine.
@@ -161,10 +167,5 @@ pub fn table_feed_slice_at(
     ensures moved { (result ≡ slice_moved_of link_limit scan stats buf.old bytes.now)
         × (buf.new ≡ slice_buf_of link_limit scan stats buf.old bytes.now) }
 {
-    let run = table_run_at(buf, scan, stats, bytes);
-    let ended = run.ended;
-    match ended {
-        Ended::Frame(kind, len) => with_frame(buf, run, kind, len),
-        Ended::Nothing => without_frame(run),
-    }
+    feed_slice_by::<Tables>(buf, scan, stats, bytes)
 }

@@ -2,13 +2,16 @@
 
 #![tactic(auto)]
 
+mod body;
 mod counts;
+mod engines;
 mod feeding;
+mod lookup;
 mod run;
 mod scans;
-mod table_run;
-mod table_step;
 
-pub use feeding::{
-    Moved, MovedSlice, Taken, feed_at, feed_slice_at, table_feed_at, table_feed_slice_at,
-};
+pub use engines::Engine;
+pub use feeding::{Moved, MovedSlice, Taken, feed_at, feed_by, feed_slice_at, feed_slice_by};
+pub use feeding::{table_feed_at, table_feed_slice_at};
+pub use lookup::Tables;
+pub use run::Branches;
