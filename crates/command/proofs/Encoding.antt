@@ -2,14 +2,14 @@
 use mathlib.Core.Path.{◌≡◌}
 use mathlib.Core.List.{List}
 use mathlib.Core.Bool.{true, false}
-use mathlib.Core.Option.{none}
+use Rattle.std.specs.Prelude.{None, Err}
+use Rattle.std.specs.declared.result.Result.{Result}
 use Prim.Native.Nat.{ℕ}
 use lib.ListN.{length}
 use native.Mathlib.Omega.{arith}
+use Rattle.refusal.specs.declared.Error.{Error}
 use Rattle.refusal.specs.declared.Error.TheVariants.{Unsupported}
 use Rattle.writer.specs.Written.{write_result, buffer_after, WriteCauses}
-use Rattle.writer.specs.declared.WriteResult.{WriteResult}
-use Rattle.writer.specs.declared.WriteResult.TheVariants.{Err}
 use Rattle.writer.proofs.Writers.{Wrote, wrote_refused, shown}
 use Rattle.command.specs.Command.{word_of, value_of, command_frame, encodable, unsupported}
 use Rattle.command.specs.Claims.{FarthestGates, Sensitivities}
@@ -21,7 +21,7 @@ use Rattle.command.proofs.Farthest.{farthest_gates, sensitivities}
 
 module _ (c : Command) (out : List ℕ) where
   -- What the encoder has to show: its answer, its buffer, the causes, and the gates and sensitivities among them.
-  abbrev pub Encoded : WriteResult → List ℕ → Type 0
+  abbrev pub Encoded : Result ℕ Error → List ℕ → Type 0
   Encoded r left =
       record {
         told : r ≡ write_result (unsupported c) (command_frame c) (length out);
@@ -31,7 +31,7 @@ module _ (c : Command) (out : List ℕ) where
         sensitivities : Sensitivities c r;
       }
 
-  encoded : (left : List ℕ) {r : WriteResult} → Wrote (unsupported c) (command_frame c) out r left
+  encoded : (left : List ℕ) {r : Result ℕ Error} → Wrote (unsupported c) (command_frame c) out r left
       → Encoded r left
   encoded left h =
       let t = shown Unsupported (λ z. omega arith) (λ z. omega arith) (encodable c) (command_frame c) out left h in
@@ -47,8 +47,8 @@ module _ (c : Command) (out : List ℕ) where
   pub encode_refused : encodable c ≡ false → Encoded (Err Unsupported) out
   encode_refused e = encoded out (rw e (wrote_refused (command_frame c) out Unsupported))
 
-  pub encode_made : (w : ℕ) (v : Value) (left : List ℕ) (r : WriteResult) → encodable c ≡ true → w ≡ word_of c
+  pub encode_made : (w : ℕ) (v : Value) (left : List ℕ) (r : Result ℕ Error) → encodable c ≡ true → w ≡ word_of c
       → v ≡ value_of c → Made w v out r left → Encoded r left
   encode_made w v left r e p q h =
-      let wrote : Wrote none (frame_with w v) out r left = (h.told, h.left) in
+      let wrote : Wrote None (frame_with w v) out r left = (h.told, h.left) in
       encoded left (rw (e, ← p, ← q) wrote)

@@ -8,7 +8,8 @@ use Prim.Native.Nat.{ℕ, ◌≤◌}
 use lib.Dec.{leb}
 use borrow.Author.Tests.{lt-leb, leb-true, leb-false}
 use Rattle.writer.specs.Written.{WriteCauses}
-use Rattle.writer.specs.declared.WriteResult.{WriteResult}
+use Rattle.std.specs.declared.result.Result.{Result}
+use Rattle.refusal.specs.declared.Error.{Error}
 use Rattle.command.specs.Setting.{farthest, gate_known, sensitivity}
 use Rattle.command.specs.Command.{encodable}
 use Rattle.command.specs.Claims.{Outside, FarthestGates, Missing, TooHigh, Sensitivities}
@@ -44,7 +45,7 @@ module _ (m s n : ℕ) (h : n ≤ 65535) where
   unsupported_gates = rw (gates_encodable m s n h) (refused_gates, gates_refused)
 
 -- The encoder gives 2 to a `SetMaxGates` for exactly these.
-pub farthest_gates : (c : Command) (f : List ℕ) (k : ℕ) {r : WriteResult} → WriteCauses 2 (encodable c ≡ false) f k r
+pub farthest_gates : (c : Command) (f : List ℕ) (k : ℕ) {r : Result ℕ Error} → WriteCauses 2 (encodable c ≡ false) f k r
     → FarthestGates c r
 farthest_gates c f k w m s n h e =
     let g = unsupported_gates m s n h in
@@ -72,7 +73,7 @@ module _ (g : Gate) (m s : ℕ) where
       (⊎_map (missing g).1
       (λ b. (and_eq_false_iff (sensitivity m) (sensitivity s)).1 (⊎_map (lt-leb m 100) (lt-leb s 100) b)) h)
 
-pub sensitivities : (c : Command) (f : List ℕ) (k : ℕ) {r : WriteResult} → WriteCauses 2 (encodable c ≡ false) f k r
+pub sensitivities : (c : Command) (f : List ℕ) (k : ℕ) {r : Result ℕ Error} → WriteCauses 2 (encodable c ≡ false) f k r
     → Sensitivities c r
 sensitivities c f k w g m s e =
     let b = rw e at w.refused in

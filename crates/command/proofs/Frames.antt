@@ -1,5 +1,5 @@
 -- The frames of commands: how long they are, and when they are encodable.
-use mathlib.Core.Path.{◌≡◌, ◌∙◌}
+use mathlib.Core.Path.{◌≡◌}
 use mathlib.Core.Bool.{◌&&◌}
 use Prim.Native.Nat.{ℕ, ◌≤◌}
 use native.Mathlib.Omega.{arith}
@@ -13,10 +13,6 @@ use Rattle.command.specs.Setting.{farthest}
 use Rattle.command.specs.Command.{word_of, value_of, command_frame, encodable}
 use Rattle.command.specs.declared.Command.{Command}
 use Rattle.command.specs.declared.Command.TheVariants.{SetMaxGates}
-
-pub frame_sizes : (c : Command) (n : ℕ) → n ≡ size_with (value_of c)
-    → record { counted : n ≡ length (command_frame c); sized : n ≡ size_with (value_of c) }
-frame_sizes c n e = record { counted = e ∙ frame_size (word_of c) (value_of c); sized = e }
 
 -- A frame has 12 to 30 bytes.
 size-bounds : (v : Value) → (12 ≤ size_with v) × (size_with v ≤ 30)

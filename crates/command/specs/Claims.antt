@@ -10,8 +10,9 @@
 --   Sensitivities c r   if the command c is a `SetSensitivity`, the answer r is 2 exactly if its gate is missing or one
 --                       of its sensitivities is too high
 use Rattle.std.specs.Prelude.{◌≡◌, ◌↔◌, ◌⊎◌, ℕ, ◌≤◌, ◌<◌}
-use Rattle.writer.specs.Written.{number_of_write}
-use Rattle.writer.specs.declared.WriteResult.{WriteResult}
+use Rattle.std.specs.declared.result.Result.{Result}
+use Rattle.refusal.specs.Refusal.{refusal_of}
+use Rattle.refusal.specs.declared.Error.{Error}
 use Rattle.command.specs.declared.Command.{Command}
 use Rattle.command.specs.declared.Command.TheVariants.{SetMaxGates, SetSensitivity}
 use Rattle.command.specs.declared.setting.Gate.{Gate}
@@ -27,8 +28,8 @@ abbrev pub Outside : ℕ → Type 0
 Outside i = TooNear i ⊎ TooFar i
 
 -- The seconds are a number of two bytes.
-abbrev pub FarthestGates : Command → WriteResult → Type 0
-FarthestGates c r = (m s n : ℕ) → n ≤ 65535 → c ≡ SetMaxGates m s n → (number_of_write r ≡ 2 ↔ Outside m ⊎ Outside s)
+abbrev pub FarthestGates : Command → Result ℕ Error → Type 0
+FarthestGates c r = (m s n : ℕ) → n ≤ 65535 → c ≡ SetMaxGates m s n → (refusal_of r ≡ 2 ↔ Outside m ⊎ Outside s)
 
 abbrev pub Missing : Gate → Type 0
 Missing (Index i) = 8 < i
@@ -37,6 +38,6 @@ Missing All = ⊥
 abbrev pub TooHigh : ℕ → Type 0
 TooHigh x = 100 < x
 
-abbrev pub Sensitivities : Command → WriteResult → Type 0
+abbrev pub Sensitivities : Command → Result ℕ Error → Type 0
 Sensitivities c r = (g : Gate) (m s : ℕ) → c ≡ SetSensitivity g m s
-    → (number_of_write r ≡ 2 ↔ Missing g ⊎ (TooHigh m ⊎ TooHigh s))
+    → (refusal_of r ≡ 2 ↔ Missing g ⊎ (TooHigh m ⊎ TooHigh s))

@@ -6,7 +6,7 @@
 --                    0 to 100
 --   unsupported c    refusal 2, unless the command is encodable
 use Rattle.std.specs.Prelude.{List, Bool, true, false, ◌&&◌, ℕ, leb}
-use Rattle.std.proofs.Math.Option.{Option}
+use Rattle.std.specs.declared.option.Option.{Option}
 use Rattle.refusal.specs.declared.Error.{Error}
 use Rattle.refusal.specs.declared.Error.TheVariants.{Unsupported}
 use Rattle.writer.specs.Written.{unless}

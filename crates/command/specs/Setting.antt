@@ -6,14 +6,13 @@
 --   index_of b       the selection index of the baud rate b, "index 1 to 8"
 --   baud_of i        the baud rate with the selection index i, if there is one
 --   rate_of b        the bits per second of the baud rate b
-use Rattle.std.specs.Prelude.{Bool, true, cond, ◌&&◌, ℕ, eqb, leb}
+use Rattle.std.specs.Prelude.{Bool, true, cond, ◌&&◌, ℕ, eqb, leb, Some, None}
+use Rattle.std.specs.declared.option.Option.{Option}
 use Rattle.command.specs.declared.setting.Gate.{Gate}
 use Rattle.command.specs.declared.setting.Gate.TheVariants.{Index, All}
 use Rattle.command.specs.declared.setting.Baud.{Baud}
 use Rattle.command.specs.declared.setting.Baud.TheVariants.{B9600, B19200, B38400, B57600}
 use Rattle.command.specs.declared.setting.Baud.TheVariants.{B115200, B230400, B256000, B460800}
-use Rattle.command.specs.declared.setting.MaybeBaud.{MaybeBaud}
-use Rattle.command.specs.declared.setting.MaybeBaud.TheVariants.{Some, None}
 
 abbrev pub gate_value : Gate → ℕ
 gate_value (Index i) = i
@@ -43,7 +42,7 @@ index_of B230400 = 6
 index_of B256000 = 7
 index_of B460800 = 8
 
-abbrev pub baud_of : ℕ → MaybeBaud
+abbrev pub baud_of : ℕ → Option Baud
 baud_of i =
     cond (eqb i 1) (Some B9600)
     (cond (eqb i 2) (Some B19200)

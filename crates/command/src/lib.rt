@@ -14,10 +14,9 @@ ghost use Rattle.command.specs.Claims.{FarthestGates, Sensitivities};
 
 use cursor::{Value, put_value};
 use refusal::Error;
-pub use setting::{Baud, Gate, MaybeBaud};
+pub use setting::{Baud, Gate};
 use setting::{are_sensitivities, may_be_farthest};
 use wire::word;
-use writer::WriteResult;
 
 // A command to the module. Every one but `EnableConfig` is sent between `EnableConfig` and `EndConfig`.
 #[derive(Clone, Copy)]
@@ -58,22 +57,11 @@ impl Command {
         match self {
             Command::EnableConfig => word::ENABLE_CONFIG,
             Command::EndConfig => word::END_CONFIG,
-            Command::SetMaxGates {
-                moving: _,
-                stationary: _,
-                no_one_secs: _,
-            } => word::SET_MAX_GATES,
+            Command::SetMaxGates { .. } => word::SET_MAX_GATES,
             Command::ReadParameters => word::READ_PARAMETERS,
-            Command::EngineeringMode(on) => if on {
-                word::ENGINEERING_ON
-            } else {
-                word::ENGINEERING_OFF
-            },
-            Command::SetSensitivity {
-                gate: _,
-                moving: _,
-                stationary: _,
-            } => word::SET_SENSITIVITY,
+            Command::EngineeringMode(true) => word::ENGINEERING_ON,
+            Command::EngineeringMode(false) => word::ENGINEERING_OFF,
+            Command::SetSensitivity { .. } => word::SET_SENSITIVITY,
             Command::ReadFirmware => word::READ_FIRMWARE,
             Command::SetBaud(_) => word::SET_BAUD,
             Command::FactoryReset => word::FACTORY_RESET,
@@ -88,35 +76,31 @@ impl Command {
         ensures carried { result ≡ value_of self }
     {
         match self {
-            Command::EnableConfig => Value::Number(0x0001),
-            Command::EndConfig => Value::None,
+            Command::EnableConfig | Command::ReadMac => Value::Number(0x0001),
             Command::SetMaxGates {
                 moving,
                 stationary,
                 no_one_secs,
             } => { Value::Records(moving as u32, stationary as u32, no_one_secs as u32) }
-            Command::ReadParameters => Value::None,
-            Command::EngineeringMode(_) => Value::None,
             Command::SetSensitivity {
                 gate,
                 moving,
                 stationary,
             } => { Value::Records(gate.value(), moving as u32, stationary as u32) }
-            Command::ReadFirmware => Value::None,
             Command::SetBaud(baud) => Value::Number(baud.index()),
-            Command::FactoryReset => Value::None,
-            Command::Restart => Value::None,
-            Command::Bluetooth(on) => if on {
-                Value::Number(0x0001)
-            } else {
-                Value::Number(0x0000)
-            },
-            Command::ReadMac => Value::Number(0x0001),
+            Command::Bluetooth(on) => Value::Number(u16::from(on)),
+            Command::EndConfig
+            | Command::ReadParameters
+            | Command::EngineeringMode(_)
+            | Command::ReadFirmware
+            | Command::FactoryReset
+            | Command::Restart => Value::None,
         }
     }
 
     // Returns the size of the encoded frame, header to tail: 12 bytes without a value, 14 with a two-byte value, 30
     // with three records.
+    #[tactic(auto, using(cursor::proofs::CommandFrame::frame_size))]
     pub fn encoded_len(self) -> usize
         ensures counted { result ≡ length (command_frame self) }
         ensures sized { result ≡ size_with (value_of self) }
@@ -132,7 +116,7 @@ impl Command {
             Command::SetMaxGates {
                 moving,
                 stationary,
-                no_one_secs: _,
+                ..
             } => { may_be_farthest(moving) && may_be_farthest(stationary) }
             Command::SetSensitivity {
                 gate,
@@ -146,7 +130,7 @@ impl Command {
     // Encodes the frame into the front of `out`, and returns the number of bytes written. Refuses with 2 a value that
     // the module does not take, then with 4 a buffer shorter than the frame. Bytes after the frame stay, and a refused
     // call changes none.
-    pub fn encode(self, out: &mut [u8]) -> WriteResult
+    pub fn encode(self, out: &mut [u8]) -> Result<usize, Error>
         ensures told { result ≡ write_result (unsupported self) (command_frame self) (length out.old) }
         ensures left { out.new ≡ buffer_after (unsupported self) (command_frame self)
             out.old }
@@ -156,7 +140,7 @@ impl Command {
         ensures sensitivities { Sensitivities self result }
     {
         if !self.encodable() {
-            return WriteResult::Err(Error::Unsupported);
+            return Err(Error::Unsupported);
         }
         put_value(out, self.word(), self.value())
     }

@@ -32,13 +32,6 @@ pub enum Baud {
     B460800,
 }
 
-// A baud rate, or none for an index that the module does not know.
-#[derive(Clone, Copy)]
-pub enum MaybeBaud {
-    Some(Baud),
-    None,
-}
-
 impl Gate {
     // Returns the value that the command carries.
     pub fn value(self) -> u32
@@ -79,19 +72,19 @@ impl Baud {
     }
 
     // Returns the rate for a selection index, if the module knows the index.
-    pub fn from_index(index: u16) -> MaybeBaud
+    pub fn from_index(index: u16) -> Option<Baud>
         ensures found { result ≡ baud_of index }
     {
         match index {
-            1 => MaybeBaud::Some(Baud::B9600),
-            2 => MaybeBaud::Some(Baud::B19200),
-            3 => MaybeBaud::Some(Baud::B38400),
-            4 => MaybeBaud::Some(Baud::B57600),
-            5 => MaybeBaud::Some(Baud::B115200),
-            6 => MaybeBaud::Some(Baud::B230400),
-            7 => MaybeBaud::Some(Baud::B256000),
-            8 => MaybeBaud::Some(Baud::B460800),
-            _ => MaybeBaud::None,
+            1 => Some(Baud::B9600),
+            2 => Some(Baud::B19200),
+            3 => Some(Baud::B38400),
+            4 => Some(Baud::B57600),
+            5 => Some(Baud::B115200),
+            6 => Some(Baud::B230400),
+            7 => Some(Baud::B256000),
+            8 => Some(Baud::B460800),
+            _ => None,
         }
     }
 
@@ -116,7 +109,7 @@ impl Baud {
 pub(crate) fn may_be_farthest(gate: u8) -> bool
     ensures tested { result ≡ farthest gate }
 {
-    MIN_FARTHEST <= gate && gate <= MAX_GATE
+    (MIN_FARTHEST..=MAX_GATE).contains(&gate)
 }
 
 // Tests whether both values are sensitivities.

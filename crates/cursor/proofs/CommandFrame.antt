@@ -1,6 +1,6 @@
 -- A command's frame is its parts, joined: in a buffer with room for the frame, all parts are written. `put_value`'s
 -- proof cites this.
-use mathlib.Core.Path.{◌≡◌, refl, subst, ◌∙◌}
+use mathlib.Core.Path.{◌≡◌, refl, ap, ◌∙◌}
 use mathlib.Core.List.{List}
 use Prim.Native.Nat.{ℕ, ◌≤◌, ◌<◌}
 use native.Mathlib.Omega.{arith}
@@ -10,7 +10,7 @@ use Rattle.std.specs.declared.result.Result.{Result}
 use Rattle.wire.specs.Family.{framed}
 use Rattle.refusal.specs.declared.Error.{Error}
 use Rattle.refusal.specs.declared.Error.TheVariants.{BufferTooSmall}
-use Rattle.writer.specs.Written.{write_result, buffer_after}
+use Rattle.writer.specs.Written.{written, write_result, buffer_after}
 use Rattle.writer.proofs.Writers.{Wrote, wrote_short, wrote_whole}
 use Rattle.cursor.specs.Parts.{told_all, moved_all, joined}
 use Rattle.cursor.proofs.Parts.{parts_written}
@@ -57,6 +57,8 @@ module _ (w : ℕ) (v : Value) (out : List ℕ) (n : ℕ) (n-is : n ≡ size_wit
       → r ≡ told_all c (parts w v) → left ≡ (moved_all c (parts w v)).out.now → Made w v out r left
   made_whole c left r fits e p answer after =
       let q = parts_joined w v in
-      let all = parts_written out (parts w v) c e p (rw q (omega (arith, size))) in
-      let told : r ≡ Ok n = answer ∙ rw (size, ← q) all.0 in
-      made_of w v out left (rw told (wrote_whole (frame_with w v) out n left size fits (after ∙ rw q at all.1)))
+      let l = ap length q in
+      let all = parts_written out (parts w v) c e p (omega (arith, size, l)) in
+      let told : r ≡ Ok n = answer ∙ all.0 ∙ ap Ok (omega (arith, size, l)) in
+      let kept = after ∙ all.1 ∙ ap (written out) q in
+      made_of w v out left (rw told (wrote_whole (frame_with w v) out n left size fits kept))

@@ -1,5 +1,5 @@
 -- `cursor::put_value` meets its contract: if the frame fits, the cursor writes all of it. Assumes nothing.
-use native.Mathlib.Omega.{arith}
+use Rattle.std.proofs.Common.{rules, arith}
 use Rattle.cursor.proofs.CommandFrame.{made_short, made_whole}
 use Rattle.cursor.proofs.command_frame.put_value.Goals as goal
 
@@ -8,7 +8,6 @@ returns-then-out-needed c = made_short _ _ _ _ c.framed_len-needed.ensures.count
 
 pub returns : goal.returns
 returns c =
+    let size = c.framed_len-needed.ensures.counted in
     let made = c.new-cursor.ensures.made in
-    let told = c.frame.ensures.told in
-    let left = c.frame.ensures.left in
-    ?
+    made_whole _ _ _ _ size _ _ _ (omega arith) (search rules) made.1 c.frame.ensures.told (search rules)
