@@ -97,12 +97,7 @@ fn without_frame(run: Scanned) -> MovedSlice
 }
 
 // Feeds one byte, by the engine `E`, to the parser that the lent buffer, the scan and the counters make up.
-pub fn feed_by<E: Engine>(
-    buf: &mut [u8; MAX_FRAME],
-    scan: Scan,
-    stats: Stats,
-    byte: u8,
-) -> Moved
+pub fn feed_by<E: Engine>(buf: &mut [u8; MAX_FRAME], scan: Scan, stats: Stats, byte: u8) -> Moved
     ensures moved { (result ≡ moved_of link_limit scan stats buf.old byte)
         × (buf.new ≡ buf_of link_limit scan buf.old byte) }
 {

@@ -11,7 +11,9 @@ mod run;
 mod scans;
 
 pub use engines::Engine;
-pub use feeding::{Moved, MovedSlice, Taken, feed_at, feed_by, feed_slice_at, feed_slice_by};
-pub use feeding::{table_feed_at, table_feed_slice_at};
+pub use feeding::{
+    Moved, MovedSlice, Taken, feed_at, feed_by, feed_slice_at, feed_slice_by, table_feed_at,
+    table_feed_slice_at,
+};
 pub use lookup::Tables;
 pub use run::Branches;

@@ -1,9 +1,10 @@
 -- The parser as an engine (crate `engine`), over the largest length `limit`.
---   with_payload x p     the frame x, with the bytes of its payload in the buffer of the parser p
+--   with_payload o p     the frame in o, if there is one, with the bytes of its payload in the buffer of the parser p
 --   counter_in k st      the counter k of the counters st
 --   pending_by limit p   the pending bytes of the parser p, none if a field is out of range
 --   engine limit        the calls, the counters, and the pending string
 use Rattle.std.specs.Prelude.{List, ℕ}
+use Rattle.std.specs.declared.option.Option.{Option}
 use Rattle.wire.specs.Counter.{counter_max}
 use Rattle.frame.specs.declared.Frame.{Frame}
 use Rattle.engine.specs.Engine.{Engine}
@@ -14,8 +15,8 @@ use Rattle.parser.specs.Feed.{feed_of, feed_slice_of, reset_of, unfinished_of}
 use Rattle.scan.specs.declared.stats.Stats.{Stats}
 use Rattle.parser.specs.declared.Parser.{Parser}
 
-abbrev pub with_payload : Frame → Parser → Answer
-with_payload x p = (x, payload_of x p.buf)
+abbrev pub with_payload : Option Frame → Parser → Answer
+with_payload o p = (o, payload_of o p.buf)
 
 abbrev pub counter_in : Counter → Stats → ℕ
 counter_in frames st = st.frames

@@ -5,13 +5,13 @@ ghost use Rattle.parser.specs.Feed.{feed_of, feed_slice_of, reset_of};
 ghost use Rattle.parser.specs.Claims.{FromHere, FromAny, Determined, ResetFirst};
 
 use super::Parser;
-use feed::{Taken, feed_at, feed_slice_at};
+use feed::{Branches, Engine, Taken, feed_by, feed_slice_by};
 use frame::Frame;
 use scan::{Stats, hunting};
 
 impl Parser {
-    // Feeds as `fed` does, on a parser that is lent: it stays in place, and nothing of its buffer is copied.
-    pub fn feed(&mut self, byte: u8) -> Frame
+    // Feeds one byte by the engine `E`.
+    pub(crate) fn feed_with<E: Engine>(&mut self, byte: u8) -> Option<Frame>
         ensures fed { (result ≡ (feed_of link_limit self.old byte).answer)
             × (self.new ≡ (feed_of link_limit self.old byte).parser) }
         ensures any { FromAny self.old }
@@ -23,16 +23,14 @@ impl Parser {
             dropped,
             malformed,
         } = self.stats;
-        let scan = self.scan;
-        let stats = self.stats;
-        let moved = feed_at(&mut self.buf, scan, stats, byte);
+        let moved = feed_by::<E>(&mut self.buf, self.scan, self.stats, byte);
         self.scan = moved.scan;
         self.stats = moved.stats;
         moved.answer
     }
 
-    // Feeds as `fed_slice` does, on a parser that is lent.
-    pub fn feed_slice(&mut self, bytes: &[u8]) -> Taken
+    // Feeds a slice by the engine `E`.
+    pub(crate) fn feed_slice_with<E: Engine>(&mut self, bytes: &[u8]) -> Taken
         ensures fed { (result ≡ (feed_slice_of link_limit self.old bytes.now).answer)
             × (self.new ≡ (feed_slice_of link_limit self.old bytes.now).parser) }
         ensures any { FromAny self.old }
@@ -44,12 +42,28 @@ impl Parser {
             dropped,
             malformed,
         } = self.stats;
-        let scan = self.scan;
-        let stats = self.stats;
-        let run = feed_slice_at(&mut self.buf, scan, stats, bytes);
+        let run = feed_slice_by::<E>(&mut self.buf, self.scan, self.stats, bytes);
         self.scan = run.scan;
         self.stats = run.stats;
         run.answer
+    }
+
+    // Feeds as `fed` does, on a parser that is lent: it stays in place, and nothing of its buffer is copied.
+    pub fn feed(&mut self, byte: u8) -> Option<Frame>
+        ensures fed { (result ≡ (feed_of link_limit self.old byte).answer)
+            × (self.new ≡ (feed_of link_limit self.old byte).parser) }
+        ensures any { FromAny self.old }
+    {
+        self.feed_with::<Branches>(byte)
+    }
+
+    // Feeds as `fed_slice` does, on a parser that is lent.
+    pub fn feed_slice(&mut self, bytes: &[u8]) -> Taken
+        ensures fed { (result ≡ (feed_slice_of link_limit self.old bytes.now).answer)
+            × (self.new ≡ (feed_slice_of link_limit self.old bytes.now).parser) }
+        ensures any { FromAny self.old }
+    {
+        self.feed_slice_with::<Branches>(bytes)
     }
 
     // Resets as `cleared` does, on a parser that is lent.

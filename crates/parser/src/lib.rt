@@ -32,7 +32,7 @@ pub struct Parser {
 #[derive(Clone, Copy)]
 pub struct Fed {
     pub parser: Parser,
-    pub answer: Frame,
+    pub answer: Option<Frame>,
 }
 
 #[derive(Clone, Copy)]
@@ -74,7 +74,6 @@ impl Parser {
     pub fn unfinished(self) -> usize
         ensures told { result ≡ unfinished_of link_limit self }
     {
-        let scan = self.scan;
-        unfinished(scan)
+        unfinished(self.scan)
     }
 }

@@ -7,30 +7,17 @@ ghost use Rattle.parser.specs.Feed.{feed_of, feed_slice_of};
 ghost use Rattle.parser.specs.Claims.{FromAny};
 
 use super::{Fed, FedSlice, Parser};
-use feed::{Taken, table_feed_at, table_feed_slice_at};
+use feed::{Tables, Taken};
 use frame::Frame;
-use scan::Stats;
 
 impl Parser {
     // Feeds as `feed` does, by the table engine.
-    pub fn table_feed(&mut self, byte: u8) -> Frame
+    pub fn table_feed(&mut self, byte: u8) -> Option<Frame>
         ensures fed { (result ≡ (feed_of link_limit self.old byte).answer)
             × (self.new ≡ (feed_of link_limit self.old byte).parser) }
         ensures any { FromAny self.old }
     {
-        // Read, so that the proof knows that each counter fits its type.
-        let Stats {
-            frames,
-            resyncs,
-            dropped,
-            malformed,
-        } = self.stats;
-        let scan = self.scan;
-        let stats = self.stats;
-        let moved = table_feed_at(&mut self.buf, scan, stats, byte);
-        self.scan = moved.scan;
-        self.stats = moved.stats;
-        moved.answer
+        self.feed_with::<Tables>(byte)
     }
 
     // Feeds as `feed_slice` does, by the table engine.
@@ -39,19 +26,7 @@ impl Parser {
             × (self.new ≡ (feed_slice_of link_limit self.old bytes.now).parser) }
         ensures any { FromAny self.old }
     {
-        // Read, so that the proof knows that each counter fits its type.
-        let Stats {
-            frames,
-            resyncs,
-            dropped,
-            malformed,
-        } = self.stats;
-        let scan = self.scan;
-        let stats = self.stats;
-        let run = table_feed_slice_at(&mut self.buf, scan, stats, bytes);
-        self.scan = run.scan;
-        self.stats = run.stats;
-        run.answer
+        self.feed_slice_with::<Tables>(bytes)
     }
 
     // Feeds as `fed` does, by the table engine.
@@ -59,12 +34,7 @@ impl Parser {
         ensures fed { result ≡ feed_of link_limit self byte }
         ensures any { FromAny self }
     {
-        let mut lent = self;
-        let answer = lent.table_feed(byte);
-        Fed {
-            parser: lent,
-            answer,
-        }
+        self.fed_with::<Tables>(byte)
     }
 
     // Feeds as `fed_slice` does, by the table engine.
@@ -72,11 +42,6 @@ impl Parser {
         ensures fed { result ≡ feed_slice_of link_limit self bytes.now }
         ensures any { FromAny self }
     {
-        let mut lent = self;
-        let answer = lent.table_feed_slice(bytes);
-        FedSlice {
-            parser: lent,
-            answer,
-        }
+        self.fed_slice_with::<Tables>(bytes)
     }
 }

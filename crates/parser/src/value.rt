@@ -6,20 +6,42 @@ ghost use Rattle.parser.specs.Feed.{feed_of, feed_slice_of, reset_of};
 ghost use Rattle.parser.specs.Claims.{FromHere, FromAny, Determined, ResetFirst};
 
 use super::{Fed, FedSlice, Parser};
+use feed::{Branches, Engine};
 
 impl Parser {
+    // Feeds one byte by the engine `E`.
+    pub(crate) fn fed_with<E: Engine>(self, byte: u8) -> Fed
+        ensures fed { result ≡ feed_of link_limit self byte }
+        ensures any { FromAny self }
+    {
+        let mut lent = self;
+        let answer = lent.feed_with::<E>(byte);
+        Fed {
+            parser: lent,
+            answer,
+        }
+    }
+
+    // Feeds a slice by the engine `E`.
+    pub(crate) fn fed_slice_with<E: Engine>(self, bytes: &[u8]) -> FedSlice
+        ensures fed { result ≡ feed_slice_of link_limit self bytes.now }
+        ensures any { FromAny self }
+    {
+        let mut lent = self;
+        let answer = lent.feed_slice_with::<E>(bytes);
+        FedSlice {
+            parser: lent,
+            answer,
+        }
+    }
+
     // Feeds one received byte. The answer is the frame that this byte completed, or no frame. A parser with a field out
     // of range is handled as if reset came first.
     pub fn fed(self, byte: u8) -> Fed
         ensures fed { result ≡ feed_of link_limit self byte }
         ensures any { FromAny self }
     {
-        let mut lent = self;
-        let answer = lent.feed(byte);
-        Fed {
-            parser: lent,
-            answer,
-        }
+        self.fed_with::<Branches>(byte)
     }
 
     // Feeds bytes up to and including the end of the first whole frame, decoded or not, else all of them. The answer is
@@ -28,12 +50,7 @@ impl Parser {
         ensures fed { result ≡ feed_slice_of link_limit self bytes.now }
         ensures any { FromAny self }
     {
-        let mut lent = self;
-        let answer = lent.feed_slice(bytes);
-        FedSlice {
-            parser: lent,
-            answer,
-        }
+        self.fed_slice_with::<Branches>(bytes)
     }
 
     // Forgets a frame in progress and looks for a header again. The counters are kept. Whatever parser it is given,
