@@ -6,13 +6,15 @@ use Prim.Native.Nat.{ℕ, ◌+◌, ◌*◌, ◌≤◌}
 use native.Mathlib.Omega.{arith}
 use lib.ListN.{length, take, drop, length-append, length-take, length-drop, take-append-drop, drop_of_length-le}
 use lib.Seq.{take_at, drop_at, drop-drop}
+use Rattle.std.specs.Prelude.{IfOk}
+use Rattle.refusal.specs.Refusal.{refusal_of, returned}
 use Rattle.refusal.specs.declared.Error.TheVariants.{Unrepresentable}
 use Rattle.wire.specs.Bytes.{Bytes, Every}
 use Rattle.wire.proofs.Bytes.{bytes_append, bytes_take, bytes_drop}
 use Rattle.writer.specs.RoundTrip.{Written}
 use Rattle.writer.proofs.RoundTrip.{Agreed}
 use Rattle.ld2450.specs.Target.{three_of}
-use Rattle.ld2450.specs.Frame.{framed, is_frame, held_in, parsed_targets}
+use Rattle.ld2450.specs.Frame.{framed, is_frame, held_in, no_targets, parsed_targets}
 use Rattle.ld2450.specs.Bytes.{target_bytes, targets_bytes, targets_frame, writable, all_writable}
 use Rattle.ld2450.specs.RoundTrip.{ReadAs, target_frames}
 use Rattle.ld2450.specs.declared.targets.Target.{Target}
@@ -107,10 +109,9 @@ module _ (s : List ℕ) (ts : List Target) where
     pub value : three_of (held_in s) ≡ ts
 
   read_by : (p : Bool) → is_frame s ≡ p → ReadAs s ts → Read
-  read_by true e r = record { frame = e; value = ap (λ x. x.targets) (sym (parsed_frame_lem s e) ∙ r) }
+  read_by true e r = record { frame = e; value = ap (λ x. (returned no_targets x).value) (sym (parsed_frame_lem s e) ∙ r) }
   read_by false e r =
-      let o = ap (λ x. x.outcome) (sym (parsed_other s e) ∙ r) in
-      let z : ◌≡◌ {A = ℕ} 0 1 = cc in
+      let z : ◌≡◌ {A = ℕ} 1 0 = ap refusal_of (sym (parsed_other s e) ∙ r) in
       absurd (omega arith)
 
   read_sound : ReadAs s ts → Read
@@ -152,8 +153,7 @@ module _ (s : List ℕ) (ts : List Target) where
         ) (sym f.spelled)
 
 -- The targets of any answer of the reader can be written.
-answer_by : (s : List ℕ) (p : Bool) → is_frame s ≡ p → all_writable (parsed_targets s).targets ≡ true
-unfolding writable
+answer_by : (s : List ℕ) (p : Bool) → is_frame s ≡ p → IfOk (parsed_targets s) (λ ts. all_writable ts ≡ true)
 answer_by s true e =
     let d = held_in s in
     rw (
@@ -162,9 +162,9 @@ answer_by s true e =
       target_writable (take 8 (drop 8 d)),
       target_writable (take 8 (drop 16 d)),
     )
-answer_by s false e = rw (parsed_other s e)
+answer_by s false e = rw (parsed_other s e) tt
 
-pub answer_writable : (s : List ℕ) → all_writable (parsed_targets s).targets ≡ true
+pub answer_writable : (s : List ℕ) → IfOk (parsed_targets s) (λ ts. all_writable ts ≡ true)
 answer_writable s = answer_by s (is_frame s) refl
 
 -- So the writer and the reader agree on three targets.

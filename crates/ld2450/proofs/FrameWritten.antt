@@ -1,7 +1,6 @@
--- The writer's tests of three targets, and the frame that it puts part by part.
+-- The frame of three targets, put part by part.
 use mathlib.Core.Path.{◌≡◌, refl, sym, ap, ◌∙◌}
 use mathlib.Core.List.{List, [], ◌∷◌, ◌++◌, append_assoc, append-nil}
-use mathlib.Core.Bool.{Bool, true, false, ◌&&◌}
 use Prim.Native.Nat.{ℕ, ◌≤◌}
 use native.Mathlib.Omega.{arith}
 use lib.ListN.{length, get_or}
@@ -10,15 +9,11 @@ use Rattle.writer.specs.Written.{written}
 use Rattle.writer.proofs.Chain.{put_nil, put_next, put_written}
 use Rattle.ld2450.specs.Target.{absent}
 use Rattle.ld2450.specs.Frame.{header, tail, framed}
-use Rattle.ld2450.specs.Bytes.{target_bytes, targets_bytes, targets_frame, writable, all_writable}
+use Rattle.ld2450.specs.Bytes.{target_bytes, targets_bytes, targets_frame}
 use Rattle.ld2450.specs.declared.targets.Target.{Target}
 use Rattle.ld2450.proofs.Frames.{framed_length}
 use Rattle.ld2450.proofs.TargetRound.{target_eight}
 use Rattle.ld2450.proofs.FrameRound.{targets_length}
-
-and-true : (b : Bool) → b && true ≡ b
-and-true true = refl
-and-true false = refl
 
 -- A list of three is its three elements.
 trio : (ts : List Target) → length ts ≡ 3 → ts ≡ get_or ts 0 absent ∷ get_or ts 1 absent ∷ get_or ts 2 absent ∷ []
@@ -28,28 +23,8 @@ trio (a ∷ b ∷ []) n = absurd (omega arith)
 trio (a ∷ b ∷ c ∷ []) n = refl
 trio (a ∷ b ∷ c ∷ d ∷ ts) n = absurd (omega arith)
 
-module _ (ts : List Target) (n : length ts ≡ 3) where
-  all_tested : all_writable ts
-      ≡ writable (get_or ts 0 absent) && (writable (get_or ts 1 absent) && writable (get_or ts 2 absent))
-  all_tested =
-      ap all_writable (trio ts n)
-      ∙ ap (λ b. writable (get_or ts 0 absent) && (writable (get_or ts 1 absent) && b))
-      (and-true (writable (get_or ts 2 absent)))
-
-  -- The first test that fails decides, else the last one.
-  pub by_first : {r : Bool} → r ≡ writable (get_or ts 0 absent) → r ≡ false → r ≡ all_writable ts
-  by_first e z = rw (all_tested, ← e, z)
-
-  pub by_second : {r : Bool} → writable (get_or ts 0 absent) ≡ true → r ≡ writable (get_or ts 1 absent) → r ≡ false
-      → r ≡ all_writable ts
-  by_second a e z = rw (all_tested, a, ← e, z)
-
-  pub by_third : {r : Bool} → writable (get_or ts 0 absent) ≡ true → writable (get_or ts 1 absent) ≡ true
-      → r ≡ writable (get_or ts 2 absent) → r ≡ all_writable ts
-  by_third a b e = rw (all_tested, a, b) e
-
-  pub frame_size : length (targets_frame ts) ≡ 30
-  frame_size = framed_length (targets_bytes ts) (omega (arith, targets_length ts))
+pub frame_size : (ts : List Target) → length ts ≡ 3 → length (targets_frame ts) ≡ 30
+frame_size ts n = framed_length (targets_bytes ts) (omega (arith, targets_length ts))
 
 -- Header, three targets, tail, each put where the one before ended.
 put_parts : (out a b c b₁ b₂ b₃ b₄ b₅ : List ℕ) → 30 ≤ length out → length a ≡ 8 → length b ≡ 8 → length c ≡ 8

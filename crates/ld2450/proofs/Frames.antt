@@ -1,28 +1,31 @@
 -- Frames: the test decides what is one, the reader finds its target bytes, and gives 1 to all other bytes.
 use mathlib.Core.Path.{◌≡◌, refl, sym, ap, ◌∙◌}
-use mathlib.Core.Logic.{◌⊎◌, inl, inr}
+use mathlib.Core.Logic.{◌≢◌, ◌⊎◌, inl, inr}
 use mathlib.Core.List.{List, ◌++◌}
-use mathlib.Core.Bool.{Bool, true, false, ◌&&◌, and-eq-true_iff}
-use Prim.Native.Nat.{ℕ}
+use mathlib.Core.Bool.{Bool, true, false, ◌&&◌, and-eq-true_iff, false≢true}
+use Prim.Native.Nat.{ℕ, ◌-◌}
 use native.Mathlib.Omega.{arith}
 use lib.Dec.{eqb}
+use lib.Pointwise.{pointwise}
 use lib.ListN.{length, take, drop, length-append, length-take, length-drop, take-append-drop}
-use lib.Seq.{take_at, drop_at, drop-drop, take_all}
+use lib.Seq.{take_at, drop_at, drop-drop}
 use borrow.Author.Tests.{eqb-true, eq-eqb}
-use Rattle.refusal.specs.Refusal.{Returned}
+use Rattle.std.proofs.Common.{Some, None, Ok, Err, Bor}
+use Rattle.std.specs.Array.{IsWholeChunk}
+use Rattle.std.specs.Option.{MatchOption, IsSomeAnd, ok_or}
+use Rattle.std.specs.declared.option.Option.{Option}
+use Rattle.std.specs.declared.result.Result.{Result}
+use Rattle.refusal.specs.Refusal.{Returned, returned}
+use Rattle.refusal.specs.declared.Error.{Error}
 use Rattle.refusal.specs.declared.Error.TheVariants.{InvalidFormat}
-use Rattle.refusal.specs.declared.Outcome.TheVariants.{Ok, Err}
 use Rattle.wire.specs.Bytes.{Bytes}
 use Rattle.wire.specs.Equal.{same_bytes}
-use Rattle.wire.specs.Prefix.{prefixed}
 use Rattle.wire.proofs.Bytes.{bytes_append}
-use Rattle.wire.proofs.Equality.{same_sound, same_complete}
-use Rattle.wire.proofs.Prefixes.{prefixed_full}
+use Rattle.wire.proofs.Equality.{same_sound, same_complete, same_pairwise}
 use Rattle.ld2450.specs.Target.{three_of}
 use Rattle.ld2450.specs.Frame.{header, tail, framed, IsFrame, is_frame, held_in, no_targets, parsed_targets}
-use Rattle.ld2450.specs.Frame.{returned_targets, ReadCauses, OneAnswer}
+use Rattle.ld2450.specs.Frame.{ReadCauses, OneAnswer}
 use Rattle.ld2450.specs.declared.targets.Target.{Target}
-use Rattle.ld2450.specs.declared.TargetsResult.{TargetsResult}
 
 -- What is where in the frame around 24 target bytes.
 module _ (d : List ℕ) (n : length d ≡ 24) where
@@ -79,26 +82,78 @@ module _ (s : List ℕ) where
       let f = frame_sound e in
       ap length f.spelled ∙ framed_length f.held f.all_there
 
-  -- A copy of the target bytes into 24 places is the target bytes.
-  pub held_copied : (z : List ℕ) → length z ≡ 24 → is_frame s ≡ true → prefixed z (held_in s) ≡ held_in s
-  held_copied z n e =
-      let l = held_length (frame_length e) in
-      prefixed_full z (held_in s) (omega arith) ∙ take_all (length z) (held_in s) (omega arith)
+  unframed : (IsFrame s → ⊥) → is_frame s ≡ false
+  unframed other = go (is_frame s) refl
+    where
+      go : (b : Bool) → is_frame s ≡ b → b ≡ false
+      go true e = absurd (other (frame_sound e))
+      go false e = refl
+
+  -- Which strings are frames, by what is left without the header and then without the tail, as std's functions take
+  -- them off.
+  pub header_off : pointwise eqb (take 4 s) header ≡ false → is_frame s ≡ false
+  header_off h = unframed (λ f. false≢true (sym (rw f.spelled at h)))
+
+  module _ (r : List ℕ) (e : r ≡ drop 4 s) where
+    left_in : (f : IsFrame s) → r ≡ f.held ++ tail
+    left_in f = e ∙ ap (drop 4) f.spelled
+
+    pub tail_off : pointwise eqb (drop (length r - 2) r) tail ≡ false → is_frame s ≡ false
+    tail_off h = unframed (λ f.
+      let l : length r - 2 ≡ 24 = rw (left_in f, length-append f.held tail) (omega (arith, f.all_there)) in
+      false≢true (sym (rw (l, left_in f, drop_at f.held tail 24 f.all_there) at h)))
+
+    module _ (d : List ℕ) (i : d ≡ take (length r - 2) r) where
+      pub length_off : length d ≢ 24 → is_frame s ≡ false
+      length_off h = unframed (λ f.
+        let l : length r - 2 ≡ 24 = rw (left_in f, length-append f.held tail) (omega (arith, f.all_there)) in
+        h (ap length (i ∙ rw (l, left_in f) (take_at f.held tail 24 f.all_there)) ∙ f.all_there))
+
+      pub held_found : pointwise eqb (take 4 s) header ≡ true → pointwise eqb (drop (length r - 2) r) tail ≡ true
+          → length d ≡ 24 → (is_frame s ≡ true) × (d ≡ held_in s)
+      held_found first last n =
+          let h = same_sound (take 4 s) header (sym (same_pairwise (take 4 s) header) ∙ first) in
+          let t = same_sound (drop (length r - 2) r) tail (sym (same_pairwise (drop (length r - 2) r) tail) ∙ last) in
+          let rest : r ≡ d ++ tail = rw (i, ← t) (sym (take-append-drop (length r - 2) r)) in
+          let f : IsFrame s = record {
+            held = d;
+            all_there = n;
+            spelled = sym (take-append-drop 4 s)
+                ∙ ap (λ (l : List ℕ). l ++ drop 4 s) h ∙ ap (λ (l : List ℕ). header ++ l) (sym e ∙ rest);
+          } in
+          (frame_complete f, sym (frame_held f))
+
+      pub whole_held : (held : Option (Bor (List ℕ))) → pointwise eqb (take 4 s) header ≡ true
+          → pointwise eqb (drop (length r - 2) r) tail ≡ true
+          → MatchOption held (length d ≢ 24) (λ h. IsWholeChunk d h.now 24)
+          → MatchOption held (is_frame s ≡ false) (λ h. (is_frame s ≡ true) × (h.now ≡ held_in s))
+      whole_held None first last n = length_off n
+      whole_held (Some h) first last n =
+          let f = held_found first last n.long in
+          (f.0, n.same ∙ f.1)
 
   -- The reader's answers.
-  pub parsed_frame_lem : is_frame s ≡ true → parsed_targets s ≡ record { outcome = Ok; targets = three_of (held_in s) }
+  pub parsed_frame_lem : is_frame s ≡ true → parsed_targets s ≡ Ok (three_of (held_in s))
   unfolding parsed_targets
   parsed_frame_lem e = rw e
 
-  pub parsed_other : is_frame s ≡ false
-      → parsed_targets s ≡ record { outcome = Err InvalidFormat; targets = no_targets }
+  pub parsed_other : is_frame s ≡ false → parsed_targets s ≡ Err InvalidFormat
   unfolding parsed_targets
   parsed_other e = rw e
+
+  -- So the reader's answer by the bytes between header and tail, where there are such.
+  pub read_told : (held : Option (Bor (List ℕ))) (targets : Option (List Target))
+      → MatchOption held (is_frame s ≡ false) (λ d. (is_frame s ≡ true) × (d.now ≡ held_in s))
+      → MatchOption held (targets ≡ None) (λ d. IsSomeAnd targets (λ ts. ts ≡ three_of d.now))
+      → ok_or targets InvalidFormat ≡ parsed_targets s
+  read_told None targets h k = rw (k, parsed_other h)
+  read_told (Some d) None h k = absurd k
+  read_told (Some d) (Some ts) h k = rw (parsed_frame_lem h.0, ← h.1, k)
 
   no_frame_lem : is_frame s ≡ false → ¬ IsFrame s
   no_frame_lem e f = let t = frame_complete f in let z : ◌≡◌ {A = ℕ} 0 1 = cc in omega arith
 
-  frame_causes : is_frame s ≡ true → ReadCauses s (returned_targets (parsed_targets s))
+  frame_causes : is_frame s ≡ true → ReadCauses s (returned no_targets (parsed_targets s))
   frame_causes e = rw (parsed_frame_lem e) (record {
     accepted = (λ z. frame_sound e, λ f. refl);
     given = λ f. ap three_of (frame_held f);
@@ -106,7 +161,7 @@ module _ (s : List ℕ) where
     returned = inl refl;
   })
 
-  other_causes : is_frame s ≡ false → ReadCauses s (returned_targets (parsed_targets s))
+  other_causes : is_frame s ≡ false → ReadCauses s (returned no_targets (parsed_targets s))
   other_causes e = rw (parsed_other e) (record {
     accepted = (λ z. absurd (omega arith), λ f. absurd (other f));
     given = λ f. absurd (other f);
@@ -117,7 +172,7 @@ module _ (s : List ℕ) where
       other : IsFrame s → ⊥
       other = no_frame_lem e
 
-  read_causes : (b : Bool) → is_frame s ≡ b → ReadCauses s (returned_targets (parsed_targets s))
+  read_causes : (b : Bool) → is_frame s ≡ b → ReadCauses s (returned no_targets (parsed_targets s))
   read_causes true e = frame_causes e
   read_causes false e = other_causes e
 
@@ -139,5 +194,5 @@ module _ (s : List ℕ) where
   one_answer = answers_agree (is_frame s) refl
 
   -- So the reader's answer has its causes.
-  pub read_shown : (r : TargetsResult) → r ≡ parsed_targets s → ReadCauses s (returned_targets r)
+  pub read_shown : (r : Result (List Target) Error) → r ≡ parsed_targets s → ReadCauses s (returned no_targets r)
   read_shown r e = rw e (read_causes (is_frame s) refl)

@@ -1,9 +1,7 @@
 -- Laws about the definitions, which the proofs of this crate cite.
 -- A two-byte number and the signed number that it says.
 pub mod Signs
--- Signed numbers, as the machine holds them.
-pub mod Numbers
--- A target read from its eight bytes, and its bytes laid out.
+-- A target read from its eight bytes, and which targets can be written.
 pub mod TargetBytes
 -- Frames, and what the reader gives for them.
 pub mod Frames
@@ -15,7 +13,7 @@ pub mod Typed
 pub mod TargetRound
 -- The same for three targets and their frame.
 pub mod FrameRound
--- The writer's tests, and the frame that it puts part by part.
+-- The frame of three targets, put part by part.
 pub mod FrameWritten
 -- The writer's test fails exactly in request 6's two causes.
 pub mod Unsayable

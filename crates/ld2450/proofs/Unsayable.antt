@@ -13,7 +13,8 @@ use borrow.Author.Tests.{leb-false, eq-eqb, ne_eqb}
 use Rattle.wire.specs.Bytes.{Every}
 use Rattle.writer.specs.Written.{WriteCauses}
 use Rattle.writer.specs.RoundTrip.{writes, leaves, RoundTrip}
-use Rattle.writer.specs.declared.WriteResult.{WriteResult}
+use Rattle.std.specs.declared.result.Result.{Result}
+use Rattle.refusal.specs.declared.Error.{Error}
 use Rattle.writer.proofs.RoundTrip.{ShownRound}
 use Rattle.ld2450.specs.Signed.{sayable}
 use Rattle.ld2450.specs.Bytes.{is_zero, writable, all_writable, targets_frame, Unsayable, lowest_x, lowest_y}
@@ -102,7 +103,7 @@ pub unsayable : (ts : List Target) → Every TypedTarget ts → all_writable ts 
 unsayable ts h = (some_caused ts h, some_unwritable ts)
 
 -- A cause of a writer's answer can be replaced by an equivalent one.
-reworded : {k n : ℕ} {A B : Type 0} {f : List ℕ} {r : WriteResult} → A ↔ B → WriteCauses k A f n r
+reworded : {k n : ℕ} {A B : Type 0} {f : List ℕ} {r : Result ℕ Error} → A ↔ B → WriteCauses k A f n r
     → WriteCauses k B f n r
 reworded h w = record {
   accepted = (
@@ -115,7 +116,7 @@ reworded h w = record {
 }
 
 -- What the writer has to show.
-pub sends : (ts : List Target) → TypedTargets ts → (out left : List ℕ) {r : WriteResult}
+pub sends : (ts : List Target) → TypedTargets ts → (out left : List ℕ) {r : Result ℕ Error}
     → ShownRound target_frames ts (all_writable ts) out r left
     → record {
       examples : WrittenExample;

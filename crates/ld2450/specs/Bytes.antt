@@ -9,7 +9,8 @@
 --   Unsayable t          no bytes say the target t, for one of the request's two causes
 --   SomeUnsayable ts     one of the targets is such
 use Rattle.std.specs.Prelude.{◌≡◌, ◌≢◌, List, [], ◌∷◌, ◌++◌, Bool, true, false, cond, ◌&&◌, ℕ, eqb, replicate, ℤ, pos, negsuc, neg_ℤ}
-use Rattle.std.proofs.Math.Option.{Option}
+use Rattle.std.specs.List.{list_all}
+use Rattle.std.specs.declared.option.Option.{Option}
 use Rattle.refusal.specs.declared.Error.{Error}
 use Rattle.refusal.specs.declared.Error.TheVariants.{Unrepresentable}
 use Rattle.wire.specs.Number.{le_bytes}
@@ -45,8 +46,7 @@ writable t = cond t.present
     (is_zero t.x && (is_zero t.y && (is_zero t.speed && eqb t.resolution 0)))
 
 abbrev pub all_writable : List Target → Bool
-all_writable [] = true
-all_writable (t ∷ ts) = writable t && all_writable ts
+all_writable ts = list_all writable ts
 
 abbrev pub unrepresentable : List Target → Option Error
 unrepresentable ts = unless (all_writable ts) Unrepresentable

@@ -4,8 +4,7 @@
 --   crowd            a frame of three present targets, no two alike in any field: `apart`, `ahead`, `aside`
 --   Examples         "So 0E 03 is -782, B1 86 is 1,713, and 00 00 and 00 80 are both 0."; and how these frames are read
 --   WrittenExample   the frames that are written for these targets: "zero of a present target as 00 80"
-use Rattle.std.specs.Prelude.{◌≡◌, true, List, [], ◌∷◌, ◌++◌, ℕ, ℤ, pos, neg_ℤ, replicate}
-use Rattle.refusal.specs.declared.Outcome.TheVariants.{Ok}
+use Rattle.std.specs.Prelude.{◌≡◌, true, List, [], ◌∷◌, ◌++◌, ℕ, ℤ, pos, neg_ℤ, replicate, Ok}
 use Rattle.wire.specs.Number.{little}
 use Rattle.ld2450.specs.Signed.{signed_of}
 use Rattle.ld2450.specs.Target.{absent, target_of}
@@ -44,8 +43,8 @@ pub record Examples : Type 0 where
   pub set_zero : said 0x00 0x80 ≡ pos 0
   pub still : target_of (replicate 6 0x00 ++ (0x40 ∷ 0x01 ∷ []))
       ≡ record { present = true; x = pos 0; y = pos 0; speed = pos 0; resolution = 320 }
-  pub read : parsed_targets seen ≡ record { outcome = Ok; targets = apart ∷ zeros ∷ absent ∷ [] }
-  pub each : parsed_targets crowd ≡ record { outcome = Ok; targets = apart ∷ ahead ∷ aside ∷ [] }
+  pub read : parsed_targets seen ≡ Ok (apart ∷ zeros ∷ absent ∷ [])
+  pub each : parsed_targets crowd ≡ Ok (apart ∷ ahead ∷ aside ∷ [])
 
 pub record WrittenExample : Type 0 where
   pub some : targets_frame (apart ∷ zeros ∷ absent ∷ [])

@@ -5,17 +5,16 @@
 --   held_in s            the target bytes of the frame s
 --   no_targets           three absent targets: every field 0
 --   parsed_targets s     the reader's answer for s
---   returned_targets r   what the answer r returns
 --   ReadCauses s r      r returns 1 and every other field 0 exactly if s is no frame, else the targets of the frame
 --   OneAnswer s         these causes leave no choice of number and targets
-use Rattle.std.specs.Prelude.{◌≡◌, ◌↔◌, ◌⊎◌, List, [], ◌∷◌, ◌++◌, Bool, cond, ◌&&◌, ℕ, eqb, length, take, drop}
-use Rattle.refusal.specs.Refusal.{Returned, beside}
+use Rattle.std.specs.Prelude.{◌≡◌, ◌↔◌, ◌⊎◌, List, [], ◌∷◌, ◌++◌, Bool, cond, ◌&&◌, ℕ, eqb, length, take, drop, Ok, Err}
+use Rattle.std.specs.declared.result.Result.{Result}
+use Rattle.refusal.specs.Refusal.{Returned}
+use Rattle.refusal.specs.declared.Error.{Error}
 use Rattle.refusal.specs.declared.Error.TheVariants.{InvalidFormat}
-use Rattle.refusal.specs.declared.Outcome.TheVariants.{Ok, Err}
 use Rattle.wire.specs.Equal.{same_bytes}
 use Rattle.ld2450.specs.Target.{absent, three_of}
 use Rattle.ld2450.specs.declared.targets.Target.{Target}
-use Rattle.ld2450.specs.declared.TargetsResult.{TargetsResult}
 
 abbrev pub header : List ℕ
 header = 0xAA ∷ 0xFF ∷ 0x03 ∷ 0x00 ∷ []
@@ -42,13 +41,8 @@ abbrev pub no_targets : List Target
 no_targets = absent ∷ absent ∷ absent ∷ []
 
 -- "a frame reader, which gives 1 to all bytes but such a frame"
-unfoldable pub parsed_targets : List ℕ → TargetsResult
-parsed_targets s = cond (is_frame s)
-    (record { outcome = Ok; targets = three_of (held_in s) })
-    (record { outcome = Err InvalidFormat; targets = no_targets })
-
-abbrev pub returned_targets : TargetsResult → Returned (List Target)
-returned_targets r = beside r.outcome r.targets
+unfoldable pub parsed_targets : List ℕ → Result (List Target) Error
+parsed_targets s = cond (is_frame s) (Ok (three_of (held_in s))) (Err InvalidFormat)
 
 pub record ReadCauses (s : List ℕ) (r : Returned (List Target)) : Type 0 where
   -- nothing is refused exactly if the bytes are a frame, and then its targets are given

@@ -3,8 +3,7 @@
 --   AsWritten b       the eight bytes b are as the writer writes them: no target, or no signed field 00 00
 --   EachAsWritten d   the eight bytes of each of the three targets in d are so
 --   target_frames      the writer of targets and the reader of frames
-use Rattle.std.specs.Prelude.{◌≡◌, ◌≢◌, ◌⊎◌, List, ℕ, take, drop, replicate}
-use Rattle.refusal.specs.declared.Outcome.TheVariants.{Ok}
+use Rattle.std.specs.Prelude.{◌≡◌, ◌≢◌, ◌⊎◌, List, ℕ, take, drop, replicate, Ok}
 use Rattle.writer.specs.RoundTrip.{Codec}
 use Rattle.ld2450.specs.Target.{field_at}
 use Rattle.ld2450.specs.Frame.{held_in, parsed_targets}
@@ -12,7 +11,7 @@ use Rattle.ld2450.specs.Bytes.{targets_frame, unrepresentable}
 use Rattle.ld2450.specs.declared.targets.Target.{Target}
 
 abbrev pub ReadAs : List ℕ → List Target → Type 0
-ReadAs f ts = parsed_targets f ≡ record { outcome = Ok; targets = ts }
+ReadAs f ts = parsed_targets f ≡ Ok ts
 
 -- 00 00 and 00 80 are both 0, and the writer puts 00 80
 abbrev pub AsWritten : List ℕ → Type 0

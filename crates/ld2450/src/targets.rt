@@ -1,16 +1,17 @@
 // One target, and its eight bytes.
 ghost use Rattle.std.specs.Prelude.{◌≡◌, true, ◌+◌, ◌≤◌, length, take, drop};
-ghost use Rattle.ld2450.specs.Target.{absent, field_at, target_of};
+ghost use Rattle.ld2450.specs.Target.{field_at, target_of};
 ghost use Rattle.ld2450.specs.Bytes.{target_bytes, writable};
 
-use crate::signed::{is_zero, raw_of, sayable, signed};
+use crate::signed::{raw_of, sayable, signed};
 use crate::{HELD_LEN, TARGET_LEN};
 use wire::bytes_eq;
-use writer::u16_bytes;
 
 // A target; if it is absent, every field is 0.
-#[derive(Clone, Copy)]
+#[derive(Clone, Copy, PartialEq, Eq, Default)]
 pub struct Target {
+    // A flag beside the fields, and no `Option`: the writer is given absent targets with a field that is not 0, and
+    // refuses them with 6 (clause `causes` of `write_targets`).
     pub present: bool,
     // Its position, in millimetres.
     pub x: i16,
@@ -21,36 +22,23 @@ pub struct Target {
     pub resolution: u16,
 }
 
-// Returns an absent target.
-pub(crate) fn absent() -> Target
-    ensures empty { result ≡ absent }
-{
-    Target {
-        present: false,
-        x: 0,
-        y: 0,
-        speed: 0,
-        resolution: 0,
-    }
-}
-
 // Reads the two-byte number at a place.
 fn field(bytes: &[u8], at: usize) -> u16
     requires inside { at + 2 ≤ length bytes.now }
     ensures read { result ≡ field_at bytes.now at }
 {
-    bytes[at] as u16 + 256 * (bytes[at + 1] as u16)
+    u16::from_le_bytes([bytes[at], bytes[at + 1]])
 }
 
 // Reads the target whose eight bytes begin at a place.
+#[tactic(auto, using(crate::proofs::TargetBytes::eight_from, crate::proofs::TargetBytes::back), unfolding(crate::specs::Target::target_of))]
 pub(crate) fn target_of(held: &[u8; HELD_LEN], at: usize) -> Target
     requires inside { at + 8 ≤ 24 }
     ensures read { result ≡ target_of (take 8 (drop at held.now)) }
 {
-    let all: &[u8] = held;
-    let bytes = &all[at..at + TARGET_LEN];
+    let bytes = &held[at..at + TARGET_LEN];
     if bytes_eq(bytes, &[0; TARGET_LEN]) {
-        return absent();
+        return Target::default();
     }
     Target {
         present: true,
@@ -62,17 +50,19 @@ pub(crate) fn target_of(held: &[u8; HELD_LEN], at: usize) -> Target
 }
 
 // Tests whether the reader can give the target: a present one without -32,768, an absent one with every field 0.
+#[tactic(auto, unfolding(crate::specs::Bytes::writable))]
 pub(crate) fn writable(t: Target) -> bool
     ensures tested { result ≡ writable t }
 {
     if t.present {
-        sayable(t.x) && (sayable(t.y) && sayable(t.speed))
+        sayable(t.x) && sayable(t.y) && sayable(t.speed)
     } else {
-        is_zero(t.x) && (is_zero(t.y) && (is_zero(t.speed) && t.resolution == 0))
+        t == Target::default()
     }
 }
 
 // Returns the target's eight bytes.
+#[tactic(auto, unfolding(crate::specs::Bytes::target_bytes, crate::specs::Bytes::writable))]
 pub(crate) fn target_bytes(t: Target) -> [u8; TARGET_LEN]
     requires can { writable t ≡ true }
     ensures little { result ≡ target_bytes t }
@@ -80,10 +70,10 @@ pub(crate) fn target_bytes(t: Target) -> [u8; TARGET_LEN]
     if !t.present {
         return [0; TARGET_LEN];
     }
-    let x = u16_bytes(raw_of(t.x));
-    let y = u16_bytes(raw_of(t.y));
-    let speed = u16_bytes(raw_of(t.speed));
-    let resolution = u16_bytes(t.resolution);
+    let x = raw_of(t.x).to_le_bytes();
+    let y = raw_of(t.y).to_le_bytes();
+    let speed = raw_of(t.speed).to_le_bytes();
+    let resolution = t.resolution.to_le_bytes();
     [
         x[0],
         x[1],
