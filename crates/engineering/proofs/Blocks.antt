@@ -1,24 +1,22 @@
 -- The engineering block: when it fits, and what it is read as.
-use mathlib.Core.Path.{◌≡◌, ap, sym, ◌∙◌}
+use mathlib.Core.Path.{◌≡◌, sym, ◌∙◌}
 use mathlib.Core.List.{List}
 use mathlib.Core.Bool.{true, false}
-use Prim.Native.Nat.{ℕ, ◌+◌, ◌-◌, ◌≤◌, ◌<◌}
+use Prim.Native.Nat.{ℕ, ◌+◌, ◌-◌}
 use native.Mathlib.Omega.{arith}
-use lib.ListN.{length, get_or, take, drop}
+use lib.ListN.{length, take, drop}
 use borrow.Author.Rules.{part_to_end}
-use borrow.Author.Tests.{lt-ltb, le-ltb}
 use Rattle.wire.specs.Prefix.{padded}
 use Rattle.wire.proofs.Conditions.{cond-true, cond-false}
 use Rattle.refusal.specs.declared.Check.{Check}
 use Rattle.refusal.specs.declared.Check.TheVariants.{R8}
 use Rattle.std.specs.Prelude.{Some, None, Ok, Err}
 use Rattle.std.specs.declared.option.Option.{Option}
-use Rattle.std.specs.declared.result.Result.{Result}
 use Rattle.engineering.specs.Gates.{gates_fit, gates_at}
 use Rattle.engineering.specs.declared.gates.Gates.{Gates}
 use Rattle.engineering.proofs.Counts.{gates_some, gates_none}
 use Rattle.engineering.specs.Block.{extra_count, engineering_of}
-use Rattle.engineering.specs.Block.{checked_block, extra_bytes, extra_at}
+use Rattle.engineering.specs.Block.{checked_block}
 use Rattle.engineering.specs.declared.Engineering.{Engineering}
 
 -- The length of a part that starts at place i and ends at place i + n.

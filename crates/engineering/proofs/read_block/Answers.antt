@@ -13,11 +13,11 @@ slice_bounds-reserved-count c = search gates_inside
 pub slice_bounds-reserved-start : goal.slice_bounds-reserved-start
 slice_bounds-reserved-start c = search gates_inside
 
-pub slice_bounds-zero_padded-end : goal.slice_bounds-zero_padded-end
-slice_bounds-zero_padded-end c = search moving_inside
+pub slice_bounds-gate_array-end : goal.slice_bounds-gate_array-end
+slice_bounds-gate_array-end c = search moving_inside
 
-pub slice_bounds-zero_padded-end-2 : goal.slice_bounds-zero_padded-end-2
-slice_bounds-zero_padded-end-2 c = search gates_inside
+pub slice_bounds-gate_array-end-2 : goal.slice_bounds-gate_array-end-2
+slice_bounds-gate_array-end-2 c = search gates_inside
 
 pub returns : goal.returns
 returns c = search block_read
