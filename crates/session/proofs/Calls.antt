@@ -5,35 +5,37 @@ use mathlib.Core.Bool.{Bool, true, false, false≢true, ◌&&◌}
 use Prim.Native.Nat.{ℕ}
 use native.Mathlib.Omega.{arith}
 use borrow.Author.Tests.{eqb-true, eq-eqb}
-use Rattle.wire.specs.declared.number.MaybeU16.TheVariants as Word
-use Rattle.frame.specs.declared.FrameKind.{FrameKind}
-use Rattle.frame.specs.declared.FrameKind.TheVariants as Is
+use Rattle.std.specs.Prelude.{Some, None}
+use Rattle.std.specs.declared.option.Option.{Option}
+use Rattle.ack.specs.declared.Ack.{Ack}
 use Rattle.frame.specs.declared.Frame.{Frame}
+use Rattle.frame.specs.declared.Frame.TheVariants as Is
 use Rattle.command.specs.Command.{word_of}
 use Rattle.command.specs.declared.Command.{Command}
 use Rattle.command.specs.declared.Command.TheVariants.{EnableConfig, EndConfig, Restart}
 use Rattle.session.specs.declared.Session.{Session}
 use Rattle.session.specs.declared.Session.TheVariants.{Closed, Opening, Open, Waiting, Closing}
-use Rattle.session.specs.Session.{awaited_word, is_busy, needs_open, after_sending, after_ack, is_ack, is_word}
-use Rattle.session.specs.Session.{is_awaited}
+use Rattle.session.specs.declared.ReceiveResult.TheVariants as Receive
+use Rattle.session.specs.Session.{awaited_word, is_busy, needs_open, after_sending, after_ack, is_word, received_as}
+use Rattle.session.specs.Session.{receive_of}
 use Rattle.session.specs.Machine.{Awaits, opening, waiting, closing, Idle, Takes, enabling, from_open, Leads}
 use Rattle.session.specs.Machine.{to_opening, to_closing, to_waiting, Ends, opened, not_opened, closed}
 use Rattle.session.specs.Machine.{not_closed, restarted, not_restarted, other}
 use Rattle.session.proofs.Which.{is_enable, is_end, is_restart, named_apart}
 
-pub awaited_some : (s : Session) (w : ℕ) → Awaits s w → awaited_word s ≡ Word.Some w
+pub awaited_some : (s : Session) (w : ℕ) → Awaits s w → awaited_word s ≡ Some w
 awaited_some s w opening = refl
 awaited_some s w (waiting c) = refl
 awaited_some s w closing = refl
 
-pub awaited_none : (s : Session) → Idle s → awaited_word s ≡ Word.None
+pub awaited_none : (s : Session) → Idle s → awaited_word s ≡ None
 awaited_none Closed n = refl
 awaited_none Opening n = absurd (n _ opening)
 awaited_none Open n = refl
 awaited_none (Waiting c) n = absurd (n _ (waiting c))
 awaited_none Closing n = absurd (n _ closing)
 
-pub none_idle : (s : Session) → awaited_word s ≡ Word.None → Idle s
+pub none_idle : (s : Session) → awaited_word s ≡ None → Idle s
 none_idle s e w a = let q = sym (awaited_some s w a) ∙ e in let z : ◌≡◌ {A = ℕ} 0 1 = cc in omega arith
 
 pub awaited_busy : (s : Session) (w : ℕ) → Awaits s w → is_busy s ≡ true
@@ -68,7 +70,7 @@ ends_after s t ok restarted = refl
 ends_after s t ok not_restarted = refl
 ends_after s t ok (other c b n) = other_ends c b n
 
--- A frame passes the test exactly if it acknowledges the awaited word.
+-- A word passes the test exactly if it is awaited.
 pub word_awaited : (s : Session) (v : ℕ) → is_word (awaited_word s) v ≡ true → Awaits s v
 word_awaited Closed v e = absurd (false≢true e)
 word_awaited Opening v e = rw (eqb-true v 0x00FF e) opening
@@ -76,21 +78,18 @@ word_awaited Open v e = absurd (false≢true e)
 word_awaited (Waiting c) v e = rw (eqb-true v (word_of c) e) (waiting c)
 word_awaited Closing v e = rw (eqb-true v 0x00FE e) closing
 
-pub frame_awaited : (s : Session) (f : Frame) → f.kind ≡ Is.Ack → Awaits s f.ack.word → is_awaited s f ≡ true
-frame_awaited s f k a = rw (k, awaited_some s f.ack.word a) (eq-eqb f.ack.word f.ack.word refl)
+pub awaited_passes : (s : Session) (v : ℕ) → Awaits s v → is_word (awaited_word s) v ≡ true
+awaited_passes s v a = rw (awaited_some s v a) (eq-eqb v v refl)
 
-pub awaited_frame : (s : Session) (f : Frame) → is_awaited s f ≡ true → (f.kind ≡ Is.Ack) × Awaits s f.ack.word
-awaited_frame s f e = go f.kind refl e
+-- A frame that is no acknowledgement of the awaited word passes through.
+pub frame_passes : (s : Session) (f : Option Frame) → ((a : Ack) → f ≡ Some (Is.Ack a) → ¬ Awaits s a.word)
+    → receive_of s f ≡ record { session = s; answer = Receive.Passed }
+unfolding receive_of
+frame_passes s (Some (Is.Report r)) n = refl
+frame_passes s None n = refl
+frame_passes s (Some (Is.Ack a)) n = go (is_word (awaited_word s) a.word) refl
   where
-    go : (k : FrameKind) → f.kind ≡ k → is_ack k && is_word (awaited_word s) f.ack.word ≡ true
-        → (f.kind ≡ Is.Ack) × Awaits s f.ack.word
-    go Is.None q h = absurd (false≢true h)
-    go Is.Report q h = absurd (false≢true h)
-    go Is.Ack q h = (q, word_awaited s f.ack.word h)
-
-pub frame_passes : (s : Session) (f : Frame) → ¬ ((f.kind ≡ Is.Ack) × Awaits s f.ack.word) → is_awaited s f ≡ false
-frame_passes s f n = go (is_awaited s f) refl
-  where
-    go : (b : Bool) → is_awaited s f ≡ b → b ≡ false
-    go true q = absurd (n (awaited_frame s f q))
+    go : (b : Bool) → is_word (awaited_word s) a.word ≡ b
+        → received_as b s a.ok ≡ record { session = s; answer = Receive.Passed }
+    go true q = absurd (n a refl (word_awaited s a.word q))
     go false q = refl

@@ -5,7 +5,7 @@ use mathlib.Core.List.{List, [], ◌∷◌}
 use Prim.Native.Nat.{ℕ}
 use native.Mathlib.Omega.{arith}
 use lib.ListN.{length}
-use Rattle.wire.specs.declared.number.MaybeU16.{MaybeU16}
+use Rattle.std.specs.declared.option.Option.{Option}
 use Rattle.refusal.specs.Refusal.{Returned, accepted}
 use Rattle.writer.specs.Written.{written}
 use Rattle.frame.specs.declared.Frame.{Frame}
@@ -39,7 +39,7 @@ pub called_send : (s : Session) (c : Command) (out : List ℕ)
     (sent (returned_send (send_of s c (length out)).answer) (buffer_of s c out))
 called_send s c out = called s (send c out)
 
-pub called_receive : (s : Session) (f : Frame) (r : Received) → r ≡ receive_of s f
+pub called_receive : (s : Session) (f : Option Frame) (r : Received) → r ≡ receive_of s f
     → record { told : r ≡ receive_of s f; called : Called s (frame f) r.session (received r.answer) }
 called_receive s f r p = record { told = p; called = rw p (called s (frame f)) }
 
@@ -47,7 +47,7 @@ pub called_give_up : (s t : Session) → t ≡ give_up_of s
     → record { told : t ≡ give_up_of s; called : Called s give_up t gave_up }
 called_give_up s t p = record { told = p; called = rw p (called s give_up) }
 
-pub called_ask : (s : Session) (w : MaybeU16) → w ≡ awaited_word s
+pub called_ask : (s : Session) (w : Option ℕ) → w ≡ awaited_word s
     → record { told : w ≡ awaited_word s; called : Called s ask s (awaiting w) }
 called_ask s w p = record { told = p; called = rw p (called s ask) }
 

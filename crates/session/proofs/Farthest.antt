@@ -2,6 +2,7 @@
 use mathlib.Core.Path.{◌≡◌, refl, sym, ap, ◌∙◌}
 use mathlib.Core.Bool.{false}
 use Prim.Native.Nat.{ℕ}
+use Rattle.std.specs.declared.result.Result.{Result}
 use native.Mathlib.Omega.{arith}
 use Rattle.refusal.specs.Refusal.{Returned}
 use Rattle.command.specs.Command.{word_of, encodable}
@@ -9,7 +10,7 @@ use Rattle.command.specs.declared.Command.{Command}
 use Rattle.command.proofs.Farthest.{unsupported_gates}
 use Rattle.session.specs.declared.Session.{Session}
 use Rattle.session.specs.declared.Session.TheVariants.{Open}
-use Rattle.session.specs.declared.SendResult.{SendResult}
+use Rattle.session.specs.declared.SessionError.{SessionError}
 use Rattle.session.specs.Returned.{returned_send}
 use Rattle.session.specs.Machine.{Takes, enabling, from_open, Refuses, busy, not_open, unsupported, short}
 use Rattle.session.specs.Machine.{number_alone}
@@ -28,7 +29,7 @@ two_refused s c k q (not_open _ _ h) z = absurd (omega arith)
 two_refused s c k q (unsupported _ _ _ a b) z = (a, b)
 two_refused s c k q (short _ _ _ a b h) z = absurd (omega arith)
 
-module _ (s : Session) (c : Command) (k : ℕ) {r : SendResult} (w : SendCauses s c k r) where
+module _ (s : Session) (c : Command) (k : ℕ) {r : Result ℕ SessionError} (w : SendCauses s c k r) where
   told : (returned_send r).number ≡ 2 → Takes s c × (encodable c ≡ false)
   told z = two_refused s c k (returned_send r) ((w.refused (returned_send r)).0 (refl, λ y. omega arith)) z
 

@@ -9,14 +9,20 @@ use lib.ListN.{length}
 use borrow.Author.Tests.{le-leb, lt-leb, leb-true, leb-false}
 use Rattle.refusal.specs.Refusal.{Returned}
 use Rattle.writer.specs.Written.{write_result, buffer_after}
+use Rattle.std.specs.Prelude.{Some, None}
+use Rattle.std.specs.declared.option.Option.{Option}
+use native.Mathlib.Omega.{arith}
+use Rattle.ack.specs.declared.Ack.{Ack}
 use Rattle.frame.specs.declared.Frame.{Frame}
+use Rattle.frame.specs.declared.Frame.TheVariants as Is
 use Rattle.command.specs.Command.{command_frame, encodable}
 use Rattle.command.specs.declared.Command.{Command}
 use Rattle.command.specs.declared.Command.TheVariants.{EnableConfig, EndConfig, Restart}
 use Rattle.engine.specs.Runs.{history, final}
 use Rattle.session.specs.declared.Session.{Session}
 use Rattle.session.specs.declared.Session.TheVariants.{Closed, Opening, Open, Waiting, Closing}
-use Rattle.session.specs.Session.{is_awaited, send_of, buffer_of, receive_of, give_up_of}
+use Rattle.session.specs.declared.ReceiveResult.TheVariants as Receive
+use Rattle.session.specs.Session.{awaited_word, is_word, answer_of, send_of, buffer_of, receive_of, give_up_of}
 use Rattle.session.specs.Machine.{Event, send, frame, give_up, ask, Response, Awaits, opening, waiting, closing}
 use Rattle.session.specs.Machine.{Idle, Takes, enabling, from_open, Leads, to_opening, to_closing, to_waiting}
 use Rattle.session.specs.Machine.{Refuses, busy, not_open, unsupported, short, Ends, opened, not_opened}
@@ -26,7 +32,7 @@ use Rattle.session.specs.Claims.{session_call, AnySession}
 use Rattle.session.proofs.Which.{is_enable, is_end, is_restart, named_decided}
 use Rattle.session.proofs.Calls.{awaited_some, awaited_none, none_idle, awaited_busy, idle_free}
 use Rattle.session.proofs.Calls.{closed_needs_open, taken_passes, leads_after, ends_after}
-use Rattle.session.proofs.Calls.{frame_awaited, frame_passes, awaited_frame}
+use Rattle.session.proofs.Calls.{word_awaited, awaited_passes, frame_passes}
 
 -- A move is what the call does.
 abbrev Same : Session → Event → Session → Response → Type 0
@@ -34,7 +40,7 @@ Same s e t a = (a ≡ (session_call s e).1) × (t ≡ (session_call s e).0)
 
 refused_same : (s : Session) (c : Command) (out : List ℕ) (r : Returned ℕ) → Refuses s c (length out) r
     → Same s (send c out) s (Response.sent r out)
-unfolding send_of buffer_of write_result buffer_after
+unfolding send_of answer_of buffer_of write_result buffer_after
 refused_same s c out r (busy _ _ _ w a) = rw (awaited_busy s w a) (refl, refl)
 refused_same s c out r (not_open _ _ n) = rw (closed_needs_open c n) (refl, refl)
 refused_same s c out r (unsupported _ _ _ k b) = let p = taken_passes s c k in rw (p.0, p.1, b) (refl, refl)
@@ -42,14 +48,18 @@ refused_same s c out r (short _ _ _ k b h) =
     let p = taken_passes s c k in
     rw (p.0, p.1, b, lt-leb (length (command_frame c)) (length out) h) (refl, refl)
 
+passes_same : (s : Session) (f : Option Frame) → ((a : Ack) → f ≡ Some (Is.Ack a) → ¬ Awaits s a.word)
+    → Same s (frame f) s (Response.received Receive.Passed)
+passes_same s f n = rw (frame_passes s f n) (refl, refl)
+
 same : (s : Session) (e : Event) (t : Session) (a : Response) → Moves s e t a → Same s e t a
-unfolding send_of buffer_of write_result buffer_after receive_of give_up_of
+unfolding send_of answer_of buffer_of write_result buffer_after receive_of give_up_of
 same s e t a (refused _ c out r h) = refused_same s c out r h
 same s e t a (goes _ _ c out h l) =
     let p = taken_passes s c h.taken in
     rw (p.0, p.1, h.good, le-leb (length (command_frame c)) (length out) h.room) (refl, leads_after c t l)
-same s e t a (ends _ _ f k w x) = rw (frame_awaited s f k w) (refl, ends_after s t f.ack.ok x)
-same s e t a (passes _ f n) = rw (frame_passes s f n) (refl, refl)
+same s e t a (ends _ _ k w x) = rw (awaited_passes s k.word w) (refl, ends_after s t k.ok x)
+same s e t a (passes _ f n) = passes_same s f n
 same s e t a (gives_up _ w k) = rw (awaited_busy s w k) (refl, refl)
 same s e t a (stays _ n) = rw (idle_free s n) (refl, refl)
 same s e t a (awaits _ w k) = rw (awaited_some s w k) (refl, refl)
@@ -123,16 +133,22 @@ end s w ok (waiting c) = go ok (named_decided c Restart is_restart)
     go false (inl e) = rw e (record { to = Open; ended = not_restarted })
     go b (inr n) = record { to = Open; ended = other c b n }
 
-frame_moves : (s : Session) (f : Frame) → Move s (frame f)
-frame_moves s f = go (is_awaited s f) refl
+passing : (s : Session) (f : Option Frame) → ((a : Ack) → f ≡ Some (Is.Ack a) → ¬ Awaits s a.word) → Move s (frame f)
+passing s f n = record { to = s; answer = _; moves = passes s f n }
+
+frame_moves : (s : Session) (f : Option Frame) → Move s (frame f)
+frame_moves s (Some (Is.Report r)) = passing s _ (λ a e h. let z : ◌≡◌ {A = ℕ} 0 1 = cc in omega arith)
+frame_moves s None = passing s _ (λ a e h. let z : ◌≡◌ {A = ℕ} 0 1 = cc in omega arith)
+frame_moves s (Some (Is.Ack a)) = go (is_word (awaited_word s) a.word) refl
   where
-    go : (b : Bool) → is_awaited s f ≡ b → Move s (frame f)
+    go : (b : Bool) → is_word (awaited_word s) a.word ≡ b → Move s (frame (Some (Is.Ack a)))
     go true q =
-        let h = awaited_frame s f q in
-        let x = end s f.ack.word f.ack.ok h.1 in
-        record { to = x.to; answer = _; moves = ends s x.to f h.0 h.1 x.ended }
+        let h = word_awaited s a.word q in
+        let x = end s a.word a.ok h in
+        record { to = x.to; answer = _; moves = ends s x.to a h x.ended }
     go false q =
-        record { to = s; answer = _; moves = passes s f (λ h. false≢true (sym q ∙ frame_awaited s f h.0 h.1)) }
+        passing s _ (λ d e h. let same_ack : a ≡ d = cc in
+          false≢true (sym q ∙ rw same_ack (awaited_passes s d.word h)))
 
 -- A wait is on, or none is.
 data Wait (s : Session) : Type 0 where

@@ -9,10 +9,11 @@
 --   FarthestSent s c r   request 7: OutsideRefused, if the command c is a `SetMaxGates`
 --   Success c f          the frame f acknowledges the command c with success
 --   OpensAndCloses s     from s, a successful `EnableConfig` opens the session and a successful `EndConfig` closes it
-use Rattle.std.specs.Prelude.{◌≡◌, ◌≢◌, ◌↔◌, ◌⊎◌, List, [], ◌∷◌, true, ℕ, ◌≤◌, length}
+use Rattle.std.specs.Prelude.{◌≡◌, ◌≢◌, ◌↔◌, ◌⊎◌, List, [], ◌∷◌, true, ℕ, ◌≤◌, length, Some}
+use Rattle.std.specs.declared.result.Result.{Result}
 use Rattle.refusal.specs.Refusal.{Returned}
 use Rattle.frame.specs.declared.Frame.{Frame}
-use Rattle.frame.specs.declared.FrameKind.TheVariants as Is
+use Rattle.frame.specs.declared.Frame.TheVariants as Is
 use Rattle.command.specs.Command.{word_of, command_frame}
 use Rattle.command.specs.Claims.{Outside}
 use Rattle.command.specs.declared.Command.{Command}
@@ -20,7 +21,7 @@ use Rattle.command.specs.declared.Command.TheVariants.{EnableConfig, EndConfig, 
 use Rattle.engine.specs.Runs.{Machine, history, final}
 use Rattle.session.specs.declared.Session.{Session}
 use Rattle.session.specs.declared.Session.TheVariants.{Closed, Open}
-use Rattle.session.specs.declared.SendResult.{SendResult}
+use Rattle.session.specs.declared.SessionError.{SessionError}
 use Rattle.session.specs.Returned.{returned_send}
 use Rattle.session.specs.Session.{awaited_word, send_of, buffer_of, receive_of, give_up_of}
 use Rattle.session.specs.Machine.{Event, send, frame, give_up, ask, Response, sent, received, gave_up, awaiting}
@@ -54,28 +55,30 @@ AnyRun s = (es : List Event) → RunsAs s es
 abbrev pub AnySession : Type 0
 AnySession = (s : Session) → AnyRun s
 
-pub record SendCauses (s : Session) (c : Command) (n : ℕ) (r : SendResult) : Type 0 where
+pub record SendCauses (s : Session) (c : Command) (n : ℕ) (r : Result ℕ SessionError) : Type 0 where
   -- a number other than 0 is returned exactly in its cause, with exactly what that cause says beside it
   pub refused : (q : Returned ℕ) → (returned_send r ≡ q) × (q.number ≢ 0) ↔ Refuses s c n q
   -- 0 is returned exactly if the command may be sent, its values are good and its frame fits
   pub accepted : (returned_send r).number ≡ 0 ↔ Sendable s c n
 
 -- "in the place where gates above 8 get it", so after 8 and 7
-abbrev pub OutsideRefused : Session → (moving stationary : ℕ) → SendResult → Type 0
+abbrev pub OutsideRefused : Session → (moving stationary : ℕ) → Result ℕ SessionError → Type 0
 OutsideRefused s m t r = (returned_send r).number ≡ 2 ↔ (s ≡ Open) × (Outside m ⊎ Outside t)
 
 -- The seconds are a number of two bytes.
-abbrev pub FarthestSent : Session → Command → SendResult → Type 0
+abbrev pub FarthestSent : Session → Command → Result ℕ SessionError → Type 0
 FarthestSent s c r = (m t n : ℕ) → n ≤ 65535 → c ≡ SetMaxGates m t n → OutsideRefused s m t r
 
 abbrev pub Success : Command → Frame → Type 0
-Success c f = (f.kind ≡ Is.Ack) × ((f.ack.word ≡ word_of c) × (f.ack.ok ≡ true))
+Success c (Is.Ack a) = (a.word ≡ word_of c) × (a.ok ≡ true)
+Success c (Is.Report r) = ⊥
 
 pub record OpensAndCloses (s : Session) : Type 0 where
   -- after `EnableConfig` and the acknowledgement of its success the session is open
   pub opened : (out : List ℕ) (f : Frame) → length (command_frame EnableConfig) ≤ length out → Success EnableConfig f
-      → final session_call s (send EnableConfig out ∷ frame f ∷ []) ≡ Open
+      → final session_call s (send EnableConfig out ∷ frame (Some f) ∷ []) ≡ Open
   -- and after `EndConfig` and the acknowledgement of its success it is closed again
   pub closed : (out rest : List ℕ) (f g : Frame) → length (command_frame EnableConfig) ≤ length out
       → length (command_frame EndConfig) ≤ length rest → Success EnableConfig f → Success EndConfig g
-      → final session_call s (send EnableConfig out ∷ frame f ∷ send EndConfig rest ∷ frame g ∷ []) ≡ Closed
+      → final session_call s (send EnableConfig out ∷ frame (Some f) ∷ send EndConfig rest ∷ frame (Some g) ∷ [])
+      ≡ Closed

@@ -1,5 +1,6 @@
 -- Request 2 as a machine: a rule for each of its sentences, in its words, and the machine's runs.
---   Event              a command sent into a buffer, a frame of the module, giving up, or asking for the awaited word
+--   Event              a command sent into a buffer, a frame of the module or none, giving up, or asking for the word
+--                      that is awaited
 --   Response           to a command: the number, the bytes needed and the bytes written, and the buffer afterwards; to
 --                      a frame: that it passed, or that it ended the wait, with `ok` on or off; to giving up: nothing;
 --                      to the question: the word, if one is awaited
@@ -13,13 +14,13 @@
 --   Ends s ok t        the awaited acknowledgement, with `ok` on or off, makes the session s the session t
 --   Moves s e t r      at the event e the machine goes from s to t and responds r
 --   Conversation s es rs t   the events es, one after another, lead from s to t, and the responses are rs
-use Rattle.std.specs.Prelude.{◌≡◌, ◌≢◌, List, [], ◌∷◌, Bool, true, false, ℕ, ◌≤◌, ◌<◌, length}
-use Rattle.wire.specs.declared.number.MaybeU16.{MaybeU16}
-use Rattle.wire.specs.declared.number.MaybeU16.TheVariants as Word
+use Rattle.std.specs.Prelude.{◌≡◌, ◌≢◌, List, [], ◌∷◌, Bool, true, false, ℕ, ◌≤◌, ◌<◌, length, Some, None}
+use Rattle.std.specs.declared.option.Option.{Option}
 use Rattle.refusal.specs.Refusal.{Returned, accepted}
 use Rattle.writer.specs.Written.{written}
 use Rattle.frame.specs.declared.Frame.{Frame}
-use Rattle.frame.specs.declared.FrameKind.TheVariants as Is
+use Rattle.frame.specs.declared.Frame.TheVariants as Is
+use Rattle.ack.specs.declared.Ack.{Ack}
 use Rattle.command.specs.Command.{word_of, command_frame, encodable}
 use Rattle.command.specs.declared.Command.{Command}
 use Rattle.command.specs.declared.Command.TheVariants.{EnableConfig, EndConfig, Restart}
@@ -30,7 +31,7 @@ use Rattle.session.specs.declared.ReceiveResult.TheVariants as Receive
 
 pub data Event : Type 0 where
   send : (c : Command) (out : List ℕ) → Event
-  frame : (f : Frame) → Event
+  frame : (f : Option Frame) → Event
   give_up : Event
   ask : Event
 
@@ -38,7 +39,7 @@ pub data Response : Type 0 where
   sent : (r : Returned ℕ) (out : List ℕ) → Response
   received : (r : ReceiveResult) → Response
   gave_up : Response
-  awaiting : (w : MaybeU16) → Response
+  awaiting : (w : Option ℕ) → Response
 
 -- "waiting for a word": a waiting session holds the command whose word it awaits; opening awaits the word of
 -- `EnableConfig`, closing that of `EndConfig`
@@ -104,18 +105,18 @@ pub data Moves : Session → Event → Session → Response → Type 0 where
       → Moves s (send c out) t (sent (accepted (length (command_frame c))) (written out (command_frame c)))
   -- "The awaited ACK ends the wait", "The answer to a frame says whether it ended the wait, and if so whether `ok` was
   -- on"
-  ends : (s t : Session) (f : Frame) → f.kind ≡ Is.Ack → Awaits s f.ack.word → Ends s f.ack.ok t
-      → Moves s (frame f) t (received (Receive.Ended f.ack.ok))
-  -- "Other ACKs and reports pass through and change nothing"
-  passes : (s : Session) (f : Frame) → ¬ ((f.kind ≡ Is.Ack) × Awaits s f.ack.word)
+  ends : (s t : Session) (a : Ack) → Awaits s a.word → Ends s a.ok t
+      → Moves s (frame (Some (Is.Ack a))) t (received (Receive.Ended a.ok))
+  -- "Other ACKs and reports pass through and change nothing"; so does no frame
+  passes : (s : Session) (f : Option Frame) → ((a : Ack) → f ≡ Some (Is.Ack a) → ¬ Awaits s a.word)
       → Moves s (frame f) s (received Receive.Passed)
   -- "The station may give up a wait, which closes the session"
   gives_up : (s : Session) (w : ℕ) → Awaits s w → Moves s give_up Closed gave_up
   -- "giving up with no wait on changes nothing"
   stays : (s : Session) → Idle s → Moves s give_up s gave_up
   -- a question of our own, not the request's: the answer is the awaited word, if any, and nothing changes
-  awaits : (s : Session) (w : ℕ) → Awaits s w → Moves s ask s (awaiting (Word.Some w))
-  idle : (s : Session) → Idle s → Moves s ask s (awaiting Word.None)
+  awaits : (s : Session) (w : ℕ) → Awaits s w → Moves s ask s (awaiting (Some w))
+  idle : (s : Session) → Idle s → Moves s ask s (awaiting None)
 
 pub data Conversation : Session → List Event → List Response → Session → Type 0 where
   here : (s : Session) → Conversation s [] [] s

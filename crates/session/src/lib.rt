@@ -14,10 +14,11 @@ ghost use Rattle.session.specs.Session.{awaited_word, is_busy, give_up_of};
 ghost use Rattle.session.specs.Machine.{give_up, gave_up, ask, awaiting};
 ghost use Rattle.session.specs.Claims.{Called, AnyRun, AnySession, OpensAndCloses};
 ghost use Rattle.session.specs.declared.Session.TheVariants as Session;
+ghost use Rattle.session.specs.declared.SessionError.TheVariants as Why;
 
 use command::Command;
 use refusal::Error;
-use wire::{MaybeU16, word};
+use wire::word;
 
 // The state of the conversation. `Waiting` has the command whose acknowledgement it waits for.
 #[derive(Clone, Copy)]
@@ -40,21 +41,15 @@ pub enum SessionError {
     Encoding(Error),
 }
 
-// The number of bytes of the command's frame in the buffer, or why it is not sent.
-#[derive(Clone, Copy)]
-pub enum SendResult {
-    Ok(usize),
-    Err(SessionError),
-}
-
-// The session after a command, and the answer.
+// The session after a command, and the answer: the number of bytes of its frame in the buffer, or why it is not sent.
 #[derive(Clone, Copy)]
 pub struct Sent {
     pub session: Session,
-    pub answer: SendResult,
+    pub answer: Result<usize, SessionError>,
 }
 
-// The effect of a frame: it passed through, or it ended the wait, with `ok` on or off.
+// The effect of a frame: it passed through, or it ended the wait, with `ok` on or off. It stays an enum, since an
+// `Option<bool>` would not say which of its values means that nothing ended.
 #[derive(Clone, Copy)]
 pub enum ReceiveResult {
     Passed,
@@ -85,10 +80,20 @@ impl SessionError {
         ensures told { result ≡ session_needed self }
     {
         match self {
-            SessionError::NotOpen => 0,
-            SessionError::Busy => 0,
+            SessionError::NotOpen | SessionError::Busy => 0,
             SessionError::Encoding(e) => e.needed(),
         }
+    }
+}
+
+impl From<Error> for SessionError {
+    ghost from_gives = { λ error why. why ≡ Why.Encoding error };
+
+    // Returns the reason why a command that the encoder refuses is not sent.
+    fn from(error: Error) -> SessionError
+        ensures told { result ≡ Why.Encoding error }
+    {
+        SessionError::Encoding(error)
     }
 }
 
@@ -104,16 +109,15 @@ impl Session {
     }
 
     // Returns the word whose acknowledgement ends the wait, if one is awaited.
-    pub fn awaited(self) -> MaybeU16
+    pub fn awaited(self) -> Option<u16>
         ensures told { result ≡ awaited_word self }
         ensures called { Called self ask self (awaiting result) }
     {
         match self {
-            Session::Closed => MaybeU16::None,
-            Session::Opening => MaybeU16::Some(word::ENABLE_CONFIG),
-            Session::Open => MaybeU16::None,
-            Session::Waiting(command) => MaybeU16::Some(command.word()),
-            Session::Closing => MaybeU16::Some(word::END_CONFIG),
+            Session::Closed | Session::Open => None,
+            Session::Opening => Some(word::ENABLE_CONFIG),
+            Session::Waiting(command) => Some(command.word()),
+            Session::Closing => Some(word::END_CONFIG),
         }
     }
 
@@ -121,10 +125,7 @@ impl Session {
     pub(crate) fn is_busy(self) -> bool
         ensures tested { result ≡ is_busy self }
     {
-        match self.awaited() {
-            MaybeU16::Some(_) => true,
-            MaybeU16::None => false,
-        }
+        self.awaited().is_some()
     }
 
     // Gives up a wait, which closes the session; without a wait nothing changes.

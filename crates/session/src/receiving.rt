@@ -1,52 +1,31 @@
 // Handing over a frame: whether it ends the wait, and the session after it.
 ghost use Rattle.std.specs.Prelude.{◌≡◌};
-ghost use Rattle.session.specs.Session.{awaited_word, is_ack, is_word, is_awaited, receive_of};
-ghost use Rattle.session.specs.Session.{after_ack, after_success};
+ghost use Rattle.session.specs.Session.{receive_of, after_ack, after_success};
 ghost use Rattle.session.specs.Machine as Machine;
 ghost use Rattle.session.specs.Machine.{received};
 ghost use Rattle.session.specs.Claims.{Called};
 
 use super::{ReceiveResult, Received, Session, has_word};
 use command::Command;
-use frame::{Frame, FrameKind};
-use wire::{MaybeU16, word};
+use frame::Frame;
+use wire::word;
 
 impl Session {
-    // Hands over a frame as the parser delivers it: the acknowledgement of the awaited word ends the wait, and any
-    // other frame passes through.
-    pub fn receive(self, frame: Frame) -> Received
+    // Hands over what the parser answers: the acknowledgement of the awaited word ends the wait, and any other frame
+    // passes through, as no frame does.
+    pub fn receive(self, frame: Option<Frame>) -> Received
         ensures told { result ≡ receive_of self frame }
         ensures called { Called self (Machine.frame frame) result.session (received result.answer) }
     {
-        if self.is_awaited(frame) {
-            let ack = frame.ack;
-            return Received {
+        match frame {
+            Some(Frame::Ack(ack)) if self.awaited() == Some(ack.word) => Received {
                 session: self.acknowledged(ack.ok),
                 answer: ReceiveResult::Ended(ack.ok),
-            };
-        }
-        Received {
-            session: self,
-            answer: ReceiveResult::Passed,
-        }
-    }
-
-    // Tests whether a frame is the awaited acknowledgement.
-    fn is_awaited(self, frame: Frame) -> bool
-        ensures tested { result ≡ is_awaited self frame }
-    {
-        let kind = frame.kind;
-        let ack = frame.ack;
-        is_ack(kind) && self.awaits(ack.word)
-    }
-
-    // Tests whether the word is awaited.
-    fn awaits(self, word: u16) -> bool
-        ensures tested { result ≡ is_word (awaited_word self) word }
-    {
-        match self.awaited() {
-            MaybeU16::Some(expected) => word == expected,
-            MaybeU16::None => false,
+            },
+            _ => Received {
+                session: self,
+                answer: ReceiveResult::Passed,
+            },
         }
     }
 
@@ -75,16 +54,5 @@ impl Session {
             return Session::Closed;
         }
         Session::Open
-    }
-}
-
-// Tests whether a frame is an acknowledgement.
-fn is_ack(kind: FrameKind) -> bool
-    ensures tested { result ≡ is_ack kind }
-{
-    match kind {
-        FrameKind::None => false,
-        FrameKind::Report => false,
-        FrameKind::Ack => true,
     }
 }
