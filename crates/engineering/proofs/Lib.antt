@@ -1,5 +1,3 @@
--- Laws about the definitions, which the proofs of this crate and of the crates above cite.
--- The engineering block: when it fits, and what it is read as.
-pub mod Blocks
--- The gate counts of an engineering block: when the block fits, and what they are read as.
+-- Laws about the definitions, which the proofs of the crates above cite.
+-- The gate counts of an engineering block: when the block fits.
 pub mod Counts

@@ -55,7 +55,7 @@ no_engineering = record {
 abbrev pub engineering_if : Bool → List ℕ → Engineering
 engineering_if flag b = cond flag (engineering_of b) no_engineering
 
-unfoldable pub checked_block : List ℕ → Result Engineering Check
+abbrev pub checked_block : List ℕ → Result Engineering Check
 checked_block b = cond (gates_fit b) (Ok (engineering_of b)) (Err R8)
 
 abbrev pub extra_bytes : Engineering → ExtraBytes

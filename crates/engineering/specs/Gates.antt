@@ -22,5 +22,5 @@ gates_fit b = leb 2 (length b) && (leb (moving_gates_in b) 9 && (leb (stationary
 abbrev pub gates_of : List ℕ → Gates
 gates_of b = record { moving = moving_gates_in b; stationary = stationary_gates_in b }
 
-unfoldable pub gates_at : List ℕ → Option Gates
+abbrev pub gates_at : List ℕ → Option Gates
 gates_at b = cond (gates_fit b) (Some (gates_of b)) None

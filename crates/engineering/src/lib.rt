@@ -90,6 +90,7 @@ impl Engineering {
 }
 
 // Reads the bytes after the basic ones: two gate counts, the energies of each, then reserved bytes (check R8).
+#[tactic(auto, unfolding(crate::specs::Block::engineering_of, crate::specs::Gates::gates_fit))]
 pub fn read_block(block: &[u8]) -> Result<Engineering, Check>
     ensures checked { result ≡ checked_block block.now }
 {

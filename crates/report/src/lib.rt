@@ -82,7 +82,7 @@ impl Report {
     }
 
     // Completes an engineering report: check R8.
-    #[tactic(auto, unfolding(crate::specs::Check::completed_report, engineering::specs::Block::checked_block))]
+    #[tactic(auto, unfolding(crate::specs::Check::completed_report))]
     fn with_block(basic: Basic, block: &[u8]) -> Result<Report, Check>
         ensures checked { result ≡ completed_report basic 0x01 block.now }
     {
