@@ -1,9 +1,8 @@
--- The reader's answer, from the layout and the checks after it.
-use mathlib.Core.Path.{◌≡◌, refl, sym, ◌∙◌}
+-- The clauses of the reader's contract, from its answer.
+use mathlib.Core.Path.{◌≡◌, refl}
 use mathlib.Core.List.{List}
-use Prim.Native.Nat.{ℕ, ◌-◌}
-use lib.ListN.{length, take, drop}
-use Rattle.std.specs.Prelude.{Some, None, Ok, Err}
+use Prim.Native.Nat.{ℕ}
+use Rattle.std.specs.Prelude.{Some, None}
 use Rattle.std.specs.declared.option.Option.{Option}
 use Rattle.std.specs.declared.result.Result.{Result}
 use Rattle.refusal.specs.Refusal.{or_error}
@@ -12,12 +11,10 @@ use Rattle.refusal.proofs.Checks.{causes}
 use Rattle.refusal.specs.declared.Error.{Error}
 use Rattle.refusal.specs.declared.Check.{Check}
 use Rattle.target_state.proofs.States.{calibration}
-use Rattle.report.specs.LayoutCheck.{report_checks, checked_layout}
-use Rattle.report.specs.declared.layout.Layout.{Layout}
-use Rattle.report.proofs.Layouts.{block_part, first_failed_lem, first_later, layout_is, data_long}
+use Rattle.report.specs.LayoutCheck.{report_checks}
 use Rattle.report.specs.Layout.{state_in}
 use Rattle.report.specs.Report.{report_of, no_report}
-use Rattle.report.specs.Check.{checked_report, completed_report, parsed_report, returned_report}
+use Rattle.report.specs.Check.{checked_report, parsed_report, returned_report}
 use Rattle.report.specs.Claims.{Calibrated}
 use Rattle.report.specs.declared.Report.{Report}
 
@@ -45,16 +42,3 @@ parsed_whole s e = record {
   causes = rw e (causes report_checks s no_report (report_of s));
   calibration = rw e (as_calibrated (first_failed report_checks s) s);
 }
-
--- From the answer k to the layout.
-module _ (s : List ℕ) (k : Result Layout Check) (e : k ≡ checked_layout s) where
-  pub layout_fails : (c : Check) → k ≡ Err c → Err c ≡ checked_report s
-  unfolding checked_report
-  layout_fails c t = rw (first_failed_lem s c (sym e ∙ t))
-
-  pub completes : (v : Layout) (r : Result Report Check) → k ≡ Ok v
-      → r ≡ completed_report v.basic v.data_type (take (length s - 2 - 11) (drop 11 s)) → r ≡ checked_report s
-  unfolding checked_report completed_report report_of
-  completes v r t c =
-      let known = sym e ∙ t in
-      c ∙ rw (layout_is s v known, block_part s (data_long s v known), first_later s v known)

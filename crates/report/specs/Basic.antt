@@ -17,5 +17,5 @@ basic_of b = record {
   detection_distance_cm = little (take 2 (drop 7 b));
 }
 
-unfoldable pub basic_at : List ℕ → Option Basic
+abbrev pub basic_at : List ℕ → Option Basic
 basic_at b = cond (leb 9 (length b)) (Some (basic_of b)) None

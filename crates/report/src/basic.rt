@@ -18,7 +18,7 @@ pub struct Basic {
 
 impl Basic {
     // Reads the nine basic bytes at the front of `body`.
-    #[tactic(auto, unfolding(crate::specs::Basic::basic_at, wire::specs::Number::number_at))]
+    #[tactic(auto, unfolding(wire::specs::Number::number_at))]
     pub(crate) fn read(body: &[u8]) -> Option<Basic>
         ensures read { result ≡ basic_at body.now }
     {

@@ -22,7 +22,7 @@ pub struct Layout {
 
 impl Layout {
     // Reads the data of a report frame, all between its length and its tail, by the checks R1 to R5 in this order.
-    #[tactic(auto, unfolding(crate::specs::LayoutCheck::checked_layout, crate::specs::Basic::basic_at, wire::specs::Number::number_at))]
+    #[tactic(auto, unfolding(crate::specs::LayoutCheck::checked_layout, wire::specs::Number::number_at))]
     pub(crate) fn checked(data: &[u8]) -> Result<Layout, Check>
         ensures checked { result ≡ checked_layout «data».now }
     {

@@ -113,6 +113,7 @@ impl Report {
 }
 
 // Reads the data of a report frame, all between its length and its tail, by the checks R1 to R8 in this order.
+#[tactic(auto, unfolding(crate::specs::Check::checked_report, crate::specs::LayoutCheck::checked_layout))]
 pub fn checked_report(data: &[u8]) -> Result<Report, Check>
     ensures checked { result ≡ checked_report «data».now }
 {
