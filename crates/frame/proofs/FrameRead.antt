@@ -3,7 +3,6 @@
 use mathlib.Core.Path.{◌≡◌, refl}
 use mathlib.Core.List.{List}
 use Prim.Native.Nat.{ℕ, ◌<◌}
-use native.Mathlib.Omega.{arith}
 use lib.ListN.{length}
 use Rattle.std.specs.Prelude.{Some, None, Ok, Err}
 use Rattle.std.specs.declared.option.Option.{Option}
@@ -35,7 +34,7 @@ read_family Family.Command d = refl
 
 -- If nothing is refused, no check failed, and the frame is the one that is read.
 unrefused : (o : Option Check) {x y : Frame} → told_by (or_error o x) ≡ Ok y → (o ≡ None) × (x ≡ y)
-unrefused (Some c) e = let z : ◌≡◌ {A = ℕ} 0 1 = cc in absurd (omega arith)
+unrefused (Some c) e = absurd (cc)
 unrefused None e = (refl, cc)
 
 pub record FrameRead (s : List ℕ) (k : Kind) (x : Frame) : Type 0 where
@@ -51,8 +50,7 @@ module _ (s : List ℕ) (k : Kind) (x : Frame) (h : family_of x ≡ k) where
       go : (v : Result Envelope Check) → envelope s ≡ v → FrameRead s k x
       go (Err c) q =
           let failed = rw (fails_framing s c q) at e in
-          let z : ◌≡◌ {A = ℕ} 0 1 = cc in
-          absurd (omega arith)
+          absurd (cc)
       go (Ok v) q =
           let d = data_of s in
           let u = unrefused (first_failed (body_checks v.kind) d) (rw (passes_framing s v q) at e) in

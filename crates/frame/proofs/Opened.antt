@@ -82,7 +82,7 @@ module _ (s : List ℕ) where
     where
       go : (o : Option Kind) → family s ≡ o → (m : Option Check) → first_failed frame_checks s ≡ m
           → opened_as o m (6 + announced s) ≡ Err c → first_failed frame_checks s ≡ Some c
-      go (Some k) f None h r = let z : ◌≡◌ {A = ℕ} 0 1 = cc in absurd (omega arith)
+      go (Some k) f None h r = absurd (cc)
       go (Some k) f (Some d) h r = let q : d ≡ c = cc in rw (h, q)
       go None f m h r = let q : F1 ≡ c = cc in rw (f, q)
 
@@ -116,8 +116,8 @@ module _ (s : List ℕ) where
             inside = leb-true (6 + announced s) (length s) all.1.1.0;
             tailed = same_sound _ _ (rw f at all.1.1.1.0);
           }
-      go (Some j) f (Some d) h r = let z : ◌≡◌ {A = ℕ} 0 1 = cc in absurd (omega arith)
-      go None f m h r = let z : ◌≡◌ {A = ℕ} 0 1 = cc in absurd (omega arith)
+      go (Some j) f (Some d) h r = absurd (cc)
+      go None f m h r = absurd (cc)
 
   pub opened_part : (v : Envelope) → envelope s ≡ Ok v → Parted v
   opened_part v e =

@@ -5,7 +5,6 @@ use mathlib.Core.Path.{◌≡◌, refl}
 use mathlib.Core.List.{List}
 use mathlib.Core.Bool.{true, false}
 use Prim.Native.Nat.{ℕ}
-use native.Mathlib.Omega.{arith}
 use Rattle.std.specs.Prelude.{Ok, Err, is_some, is_ok, option_map}
 use Rattle.std.specs.Result.{result_ok}
 use Rattle.std.specs.declared.result.Result.{Result}
@@ -26,7 +25,7 @@ undecoded f e = go (checked_frame f) e
     go : (r : Result Frame Check) → is_ok r ≡ false
         → ◌≡◌ {A = Answer} (option_map (counted_in 4) (result_ok r), payload_of (result_ok r) f) nothing
     go (Err c) q = refl
-    go (Ok x) q = let z : ◌≡◌ {A = ℕ} 0 1 = cc in absurd (omega arith)
+    go (Ok x) q = absurd (cc)
 
 pub decodes_delivers : (f : List ℕ) → decodes f ≡ true → is_some (delivered f).0 ≡ true
 unfolding decodes delivered

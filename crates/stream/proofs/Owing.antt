@@ -19,7 +19,8 @@ use Rattle.framing.proofs.Rest.{rest_append, rest_on, rest_whole, strays_over}
 use Rattle.stream.specs.Length.{InRange}
 use Rattle.stream.specs.Open.{Prefix, Open, in_header, in_length, in_data, in_tail, Whole}
 use Rattle.stream.specs.Recovery.{Clean, joined}
-use Rattle.stream.proofs.Words.{fails, range_true}
+use Rattle.std.proofs.lemmas.Bool.{false_from_ne_true}
+use Rattle.stream.proofs.Words.{range_true}
 use Rattle.stream.proofs.Steps.{length_not_whole, data_not_whole}
 use Rattle.stream.proofs.Link.{link, not_open, not_whole}
 use Rattle.stream.proofs.Traps.{length_opened}
@@ -50,7 +51,7 @@ module _ (limit : ℕ) (small : limit ≤ 512) where
 
   -- After a header and one length byte, a byte above 2 makes no length in range.
   length-ends : (k : Kind) (b c : ℕ) → 2 < c → ¬ Open limit ((header k ++ (b ∷ [])) ++ (c ∷ []))
-  length-ends k b c h = not_open limit _ (length_opened limit k b c ∙ fails _ (λ e.
+  length-ends k b c h = not_open limit _ (length_opened limit k b c ∙ false_from_ne_true _ (λ e.
       let r = (range_true limit (little (b ∷ c ∷ []))).0 e in omega (arith, r.1)))
 
   length_ready : (k : Kind) (b : ℕ) → Ready limit (header k ++ (b ∷ []))

@@ -60,7 +60,7 @@ starting_sound b k e = go (eqb b 0xF4) refl (eqb b 0xFD) refl e
         → cond x (Some Report) (cond y (Some Command) None) ≡ Some k → b ≡ get_or (header k) 0 0
     go true p y q e = let z : Report ≡ k = cc in rw (← z) (eqb-true b 0xF4 p)
     go false p true q e = let z : Command ≡ k = cc in rw (← z) (eqb-true b 0xFD q)
-    go false p false q e = let z : ◌≡◌ {A = ℕ} 0 1 = cc in absurd (omega arith)
+    go false p false q e = absurd (cc)
 
 module _ (limit : ℕ) where
   -- With nothing before it: a byte begins a frame exactly if it is a header's first, F4 or FD.

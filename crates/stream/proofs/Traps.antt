@@ -17,7 +17,8 @@ use Rattle.framing.specs.Division.{is_broken}
 use Rattle.stream.specs.Length.{InRange, in_range}
 use Rattle.stream.specs.Open.{Open, in_length}
 use Rattle.stream.proofs.Scan.{opens}
-use Rattle.stream.proofs.Words.{fails, range_true}
+use Rattle.std.proofs.lemmas.Bool.{false_from_ne_true}
+use Rattle.stream.proofs.Words.{range_true}
 use Rattle.stream.proofs.Steps.{length_not_whole, data_opens, tail_opens}
 use Rattle.stream.proofs.Link.{link, is_open, not_open, not_whole, open_prefix, whole_ends}
 
@@ -44,7 +45,7 @@ module _ (limit : ℕ) where
       → Divides (link limit) ((header k ++ (lo ∷ [])) ++ (hi ∷ t)) (broken (header k ++ (lo ∷ [])) ∷ ps)
   bad_length k lo hi t ps r d =
       is_broken (not_empty k (lo ∷ [])) (in_length k lo refl) (not_whole limit _ (length_not_whole limit k lo))
-      (not_open limit _ (length_opened k lo hi ∙ fails _ (λ e. r ((range_true limit _).0 e)))) d
+      (not_open limit _ (length_opened k lo hi ∙ false_from_ne_true _ (λ e. r ((range_true limit _).0 e)))) d
 
   module _ (k : Kind) (lo hi : ℕ) (d : List ℕ) (m : ℕ) (r : InRange limit (little (lo ∷ hi ∷ [])))
       (l : length d ≡ little (lo ∷ hi ∷ [])) (u : m < 4) where

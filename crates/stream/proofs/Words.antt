@@ -2,7 +2,7 @@
 use mathlib.Core.Path.{◌≡◌, refl, ap, ◌∙◌}
 use mathlib.Core.Logic.{◌↔◌, ◌⊎◌, inl, inr, ⊎_elim}
 use mathlib.Core.List.{List, [], ◌∷◌, ◌++◌, append-nil}
-use mathlib.Core.Bool.{Bool, true, false, and-eq-true_iff}
+use mathlib.Core.Bool.{Bool, true, and-eq-true_iff}
 use Prim.Native.Nat.{ℕ}
 use lib.Dec.{T, eqb}
 use borrow.Author.Tests.{eqb-true, leb-true, le-leb}
@@ -39,11 +39,6 @@ pub tail_sound : (cut : Bool) (k : Kind) (t : List ℕ) → T (after cut (tail k
 tail_sound cut k t h = ⊎_elim inl
     (λ p. inr (p.1 ∙ ap (λ r. tail k ++ r) (at_end_sound p.0 p.2) ∙ append-nil (tail k)))
     (after_sound cut (tail k) at_end t h)
-
--- A test that does not hold fails.
-pub fails : (b : Bool) → (b ≡ true → ⊥) → b ≡ false
-fails true h = absurd (h refl)
-fails false h = refl
 
 -- The test `in_range` passes exactly if the length is in range.
 pub range_true : (limit n : ℕ) → in_range limit n ≡ true ↔ InRange limit n

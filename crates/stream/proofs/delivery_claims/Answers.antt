@@ -5,7 +5,6 @@ use mathlib.Core.Logic.{◌↔◌}
 use mathlib.Core.List.{List}
 use mathlib.Core.Bool.{true}
 use Prim.Native.Nat.{ℕ}
-use native.Mathlib.Omega.{arith}
 use Rattle.std.specs.Prelude.{Some, None, Ok, Err, is_ok, option_map, IsOk}
 use Rattle.std.specs.Result.{result_ok}
 use Rattle.std.specs.declared.option.Option.{Option}
@@ -23,7 +22,7 @@ use Rattle.stream.proofs.Delivered.{decodes_framed, delivered_framed}
 use Rattle.stream.proofs.delivery_claims.Goals as goal
 
 none_failed : (o : Option Check) (x : Frame) → is_ok (or_error o x) ≡ true → o ≡ None
-none_failed (Some c) x e = let z : ◌≡◌ {A = ℕ} 0 1 = cc in absurd (omega arith)
+none_failed (Some c) x e = absurd (cc)
 none_failed None x e = refl
 
 -- No check fails exactly if every check passes.
