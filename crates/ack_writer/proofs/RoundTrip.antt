@@ -2,7 +2,7 @@
 use mathlib.Core.Path.{◌≡◌, refl, sym, ap, ◌∙◌}
 use mathlib.Core.List.{List}
 use mathlib.Core.Bool.{Bool, true, false, ◌&&◌, beq, and-eq-true_iff}
-use Prim.Native.Nat.{ℕ, ◌-◌, ◌/◌, ◌%◌, ◌≤◌, ◌<◌}
+use Prim.Native.Nat.{ℕ, ◌+◌, ◌-◌, ◌/◌, ◌%◌, ◌≤◌, ◌<◌}
 use native.Mathlib.Omega.{arith}
 use lib.Dec.{eqb, leb}
 use lib.ListN.{length, drop, length-drop}
@@ -18,13 +18,13 @@ use Rattle.refusal.specs.declared.Error.TheVariants.{Unrepresentable}
 use Rattle.ack.specs.Ack.{word_in, status_in, ack_checks, ack_of}
 use Rattle.ack.specs.Span.{payload_in}
 use Rattle.ack.specs.declared.Ack.{Ack}
-use Rattle.ack.proofs.Spans.{payload_inside}
 use Rattle.frame.specs.Envelope.{announced, data_of}
 use Rattle.frame.specs.Frame.{starting_at}
+use Rattle.frame.specs.declared.Frame.TheVariants as Is
 use Rattle.frame.proofs.FrameRead.{read_sound, read_complete}
 use Rattle.writer.proofs.RoundTrip.{Agreed}
 use Rattle.ack_writer.specs.Frame.{ack_data, ack_frame, writable}
-use Rattle.ack_writer.specs.RoundTrip.{ack_value, acknowledged, ack_of_value, ReadAs, ack_limit, acks}
+use Rattle.ack_writer.specs.RoundTrip.{ack_value, ack_of_value, ReadAs, ack_limit, acks}
 use Rattle.ack_writer.proofs.AckData.{data_length, data_bytes, data_word, data_status, data_payload}
 use Rattle.ack_writer.proofs.AckData.{data_again}
 
@@ -64,10 +64,11 @@ module _ (w : ℕ) (ok : Bool) (s : ℕ) (p : List ℕ) where
 -- The payload follows the word and the status.
 payload_after : (d : List ℕ) → 4 ≤ length d
     → payload_in (framed Command d) (record { start = 10; len = length d - 4 }) ≡ drop 4 d
+unfolding payload_in
 payload_after d four =
     let n = framed_length Command d in
-    payload_inside (framed Command d) (record { start = 10; len = length d - 4 }) (omega arith)
-    ∙ rw (← drop-drop 4 6 (framed Command d), framed_data Command d, drop-append-le 4 d (tail Command) four)
+    let inside = le-leb (10 + (length d - 4)) (length (framed Command d)) (omega arith) in
+    rw (inside, ← drop-drop 4 6 (framed Command d), framed_data Command d, drop-append-le 4 d (tail Command) four)
     (take_at (drop 4 d) (tail Command) (length d - 4) (length-drop 4 d))
 
 -- The data of a value that fits are read as this value.
@@ -107,10 +108,10 @@ module _ (w : ℕ) (ok : Bool) (s : ℕ) (p : List ℕ) where
       → (writable w ok s p ≡ true) × (ack_frame w s p ≡ f)
   read_again f b short r =
       let a = ack_of_value (ack_value w ok s p) in
-      let h = read_sound f Command (acknowledged a).frame refl r.given in
+      let h = read_sound f Command (Is.Ack a) refl r.given in
       let d = bytes_take (announced f) (drop 6 f) (bytes_drop 6 f b) in
-      rw r.carried at
-      (data_frame f (data_of f) a (h.whole b) (ap (λ x. x.ack) h.value) h.passes d short)
+      let value : starting_at 10 (ack_of (data_of f)) ≡ a = cc h.value in
+      rw r.carried at (data_frame f (data_of f) a (h.whole b) value h.passes d short)
 
   -- The data of a value that can be written are within the limit.
   data_within : writable w ok s p ≡ true → length (data_of (ack_frame w s p)) ≤ ack_limit

@@ -6,7 +6,7 @@
 --   unrepresentable w ok s p   refusal 6, unless it can be written
 use Rattle.std.specs.Prelude.{List, ◌++◌, Bool, ◌&&◌, ℕ, ◌+◌, ◌/◌, ◌%◌, eqb, leb, length}
 use Rattle.std.specs.Bool.{beq}
-use Rattle.std.proofs.Math.Option.{Option}
+use Rattle.std.specs.declared.option.Option.{Option}
 use Rattle.wire.specs.Number.{le_bytes}
 use Rattle.wire.specs.Family.{framed}
 use Rattle.wire.specs.declared.Kind.TheVariants as Family

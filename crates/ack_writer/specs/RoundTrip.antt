@@ -1,22 +1,18 @@
 -- Acknowledgements, written and read. Refusal 6 is for "a value that the reader can't give". "Reading and writing again
 -- gives equal bytes for every acknowledgement of at most 54 data bytes".
 --   AckValue         what the writer is given: word, `ok`, status, payload; ack_value w ok s p is the value of these
---   acknowledged a   the reader's answer that gives the acknowledgement a
 --   ack_of_value v     the acknowledgement that the frame of the value v is read as
 --   ReadAs f v       the string f is read as the value v: the reader gives its word, `ok` and status, and a span at
 --                    which f has its payload
 --   ack_limit         the most data bytes
 --   acks             the writer of acknowledgements and the reader of frames
-use Rattle.std.specs.Prelude.{◌≡◌, List, Bool, ℕ, ◌≤◌, length}
-use Rattle.refusal.specs.declared.Outcome.TheVariants.{Ok}
+use Rattle.std.specs.Prelude.{◌≡◌, List, Bool, ℕ, ◌≤◌, length, Ok}
 use Rattle.writer.specs.RoundTrip.{Codec}
-use Rattle.report.specs.Report.{no_report}
 use Rattle.ack.specs.Span.{payload_in}
 use Rattle.ack.specs.declared.Ack.{Ack}
 use Rattle.frame.specs.Envelope.{data_of}
 use Rattle.frame.specs.Frame.{parsed_frame}
-use Rattle.frame.specs.declared.FrameKind.TheVariants as Is
-use Rattle.frame.specs.declared.FrameResult.{FrameResult}
+use Rattle.frame.specs.declared.Frame.TheVariants as Is
 use Rattle.ack_writer.specs.Frame.{ack_frame, unrepresentable}
 
 pub record AckValue : Type 0 where
@@ -28,9 +24,6 @@ pub record AckValue : Type 0 where
 abbrev pub ack_value : ℕ → Bool → ℕ → List ℕ → AckValue
 ack_value w ok s p = record { word = w; ok = ok; status = s; payload = p }
 
-abbrev pub acknowledged : Ack → FrameResult
-acknowledged a = record { outcome = Ok; frame = record { kind = Is.Ack; report = no_report; ack = a } }
-
 -- "the payload's start and length within .. the slice given to `Frame::parse`"
 abbrev pub ack_of_value : AckValue → Ack
 ack_of_value v = record {
@@ -41,7 +34,7 @@ ack_of_value v = record {
 }
 
 pub record ReadAs (f : List ℕ) (v : AckValue) : Type 0 where
-  pub given : parsed_frame f ≡ acknowledged (ack_of_value v)
+  pub given : parsed_frame f ≡ Ok (Is.Ack (ack_of_value v))
   pub carried : payload_in f (ack_of_value v).payload ≡ v.payload
 
 -- "at most 54 data bytes"

@@ -12,7 +12,7 @@ ghost use Rattle.ack_writer.specs.RoundTrip.{ack_value, acks};
 
 use refusal::Error;
 use wire::{ACK_BIT, Kind, MAX_DATA};
-use writer::{WriteResult, put, put_frame, put_u16};
+use writer::{put, put_frame, put_u16};
 
 // Where an acknowledgement's payload begins in its data.
 const PAYLOAD_START: usize = 4;
@@ -21,22 +21,24 @@ const PAYLOAD_START: usize = 4;
 const MAX_PAYLOAD: usize = MAX_DATA - PAYLOAD_START;
 
 // Tests whether a value can be written: its word's ACK bit is clear, `ok` agrees with the status, the payload fits.
+#[tactic(auto, unfolding(crate::specs::Frame::writable))]
 fn writable(word: u16, ok: bool, status: u16, payload: &[u8]) -> bool
     ensures tested { result ≡ writable word ok status payload.now }
 {
-    if word / ACK_BIT % 2 != 0 {
-        return false;
-    }
-    if ok != (status == 0) {
-        return false;
-    }
-    payload.len() <= MAX_PAYLOAD
+    word / ACK_BIT % 2 == 0 && ok == (status == 0) && payload.len() <= MAX_PAYLOAD
 }
 
 // Writes the frame of an acknowledgement into the front of `out`, and returns the number of bytes written. Refuses with
 // 6 a value that the reader cannot give or a payload above 50 bytes, then with 4 a buffer shorter than the frame. Bytes
 // after the frame stay, and a refused call changes none.
-pub fn write_ack(out: &mut [u8], word: u16, ok: bool, status: u16, payload: &[u8]) -> WriteResult
+#[tactic(auto, unfolding(crate::specs::Frame::writable))]
+pub fn write_ack(
+    out: &mut [u8],
+    word: u16,
+    ok: bool,
+    status: u16,
+    payload: &[u8],
+) -> Result<usize, Error>
     ensures told { result ≡ write_result (unrepresentable word ok status payload.now)
         (ack_frame word status payload.now) (length out.old) }
     ensures left { out.new ≡ buffer_after (unrepresentable word ok status payload.now)
@@ -46,9 +48,9 @@ pub fn write_ack(out: &mut [u8], word: u16, ok: bool, status: u16, payload: &[u8
     ensures round { RoundTrip acks (ack_value word ok status payload.now) }
 {
     if !writable(word, ok, status, payload) {
-        return WriteResult::Err(Error::Unrepresentable);
+        return Err(Error::Unrepresentable);
     }
-    let mut data: [u8; MAX_DATA] = [0; MAX_DATA];
+    let mut data = [0; MAX_DATA];
     put_u16(&mut data, 0, word + ACK_BIT);
     put_u16(&mut data, 2, status);
     put(&mut data, PAYLOAD_START, payload);

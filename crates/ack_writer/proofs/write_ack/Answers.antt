@@ -1,8 +1,6 @@
 -- `ack_writer::write_ack` meets its contract: the value is tested, its data are put into an array, and the frame is
 -- put around them. Assumes nothing.
-use mathlib.Core.Path.{refl, sym, ◌∙◌}
-use native.Mathlib.Omega.{arith}
-use lib.Seq.{length-take-le}
+use Rattle.std.proofs.Common.{refl, sym, ◌∙◌, arith}
 use Rattle.wire.specs.declared.Kind.TheVariants.{Command}
 use Rattle.wire.proofs.Bytes.{bytes_at}
 use Rattle.writer.proofs.RoundTrip.{round_refused, round_framed}
@@ -17,27 +15,6 @@ returns-then-not-writable c =
     let bytes = bytes_at a.payload.now (λ i l. omega (arith, c.type_inv.payload i)) in
     let bad = sym c.writable.ensures.tested ∙ c.if-not-writable.true in
     round_refused (agreed a.word a.ok a.status a.payload.now (omega arith) (omega arith) bytes) _ bad
-
-pub overflow_add-word : goal.overflow_add-word
-overflow_add-word c =
-    let a = c.args in
-    let good = sym c.writable.ensures.tested ∙ c.if-not-writable.false in
-    let fit : Fit a.word a.ok a.status a.payload.now = writable_sound _ _ _ _ good in
-    record { fits = omega arith }
-
-pub slice_bounds-data-end : goal.slice_bounds-data-end
-slice_bounds-data-end c =
-    let a = c.args in
-    let good = sym c.writable.ensures.tested ∙ c.if-not-writable.false in
-    let fit : Fit a.word a.ok a.status a.payload.now = writable_sound _ _ _ _ good in
-    omega arith
-
-pub slice_bounds-put_frame-end : goal.slice_bounds-put_frame-end
-slice_bounds-put_frame-end c =
-    let a = c.args in
-    let good = sym c.writable.ensures.tested ∙ c.if-not-writable.false in
-    let fit : Fit a.word a.ok a.status a.payload.now = writable_sound _ _ _ _ good in
-    sym (length-take-le _ _ (omega arith))
 
 pub returns : goal.returns
 returns c =
