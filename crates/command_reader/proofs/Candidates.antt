@@ -6,7 +6,7 @@ use Prim.Native.Nat.{ℕ, ◌/◌, ◌%◌, ◌≤◌}
 use native.Mathlib.Omega.{arith}
 use lib.Dec.{leb}
 use borrow.Author.Tests.{leb-true, ne_eqb}
-use Rattle.wire.specs.Number.{little, le16_at}
+use Rattle.wire.specs.Number.{little, number_at}
 use Rattle.wire.specs.Family.{framed}
 use Rattle.wire.proofs.Bytes.{little_two}
 use Rattle.command.specs.Setting.{gate_value, gate_known, farthest, sensitivity}
@@ -39,7 +39,7 @@ gate_back (Index i) e =
 gate_back All e = refl
 
 baud_back : (b : Baud) → candidate_in (command_frame (SetBaud b)) ≡ SetBaud b
-unfolding candidate_in number_in le16_at candidate baud_for framed data_with
+unfolding candidate_in number_in number_at candidate baud_for framed data_with
 baud_back B9600 = refl
 baud_back B19200 = refl
 baud_back B38400 = refl
@@ -50,7 +50,7 @@ baud_back B256000 = refl
 baud_back B460800 = refl
 
 pub candidate_written : (c : Command) → encodable c ≡ true → candidate_in (command_frame c) ≡ c
-unfolding candidate_in number_in le16_at candidate framed data_with
+unfolding candidate_in number_in number_at candidate framed data_with
 candidate_written EnableConfig e = refl
 candidate_written EndConfig e = refl
 candidate_written (SetMaxGates m s n) e =

@@ -4,13 +4,15 @@ use mathlib.Core.Path.{◌≡◌, refl, sym, ap, ◌∙◌}
 use mathlib.Core.Logic.{◌↔◌, inl, inr}
 use mathlib.Core.List.{List}
 use mathlib.Core.Bool.{Bool, true, false}
-use mathlib.Core.Option.{some}
+use Rattle.std.specs.Prelude.{Some, Ok, Err}
+use Rattle.std.specs.declared.result.Result.{Result}
 use Prim.Native.Nat.{ℕ}
 use native.Mathlib.Omega.{arith}
 use lib.ListN.{take}
 use Rattle.wire.specs.Number.{little}
 use Rattle.wire.specs.declared.Kind.TheVariants as Family
 use Rattle.refusal.specs.Refusal.{accepted}
+use Rattle.refusal.specs.declared.Error.{Error}
 use Rattle.refusal.specs.declared.Error.TheVariants.{InvalidFormat, UnknownCommand}
 use Rattle.cursor.specs.CommandFrame.{data_with}
 use Rattle.wire.proofs.Framed.{framed_length}
@@ -25,8 +27,6 @@ use Rattle.command.specs.declared.Command.TheVariants.{FactoryReset, Restart, Bl
 use Rattle.command_reader.specs.Candidate.{candidate_in, encodes_to, if_encodes_to}
 use Rattle.command_reader.specs.Read.{EncodesTo, ReadTo, is_command, is_unknown, is_invalid, OneAnswer}
 use Rattle.command_reader.specs.Read.{ReadCauses}
-use Rattle.command_reader.specs.declared.CommandResult.{CommandResult}
-use Rattle.command_reader.specs.declared.CommandResult.TheVariants.{Ok, Err}
 use Rattle.command_reader.proofs.Candidates.{candidate_written}
 use Rattle.command_reader.proofs.Encodes.{encodes_sound, encodes_complete, unencodable}
 
@@ -67,7 +67,7 @@ module _ (s : List ℕ) where
   encodes_unique b c h k = sym (encodes_candidate b h) ∙ encodes_candidate c k
 
   -- The rules leave no choice.
-  one : {p q : CommandResult} → ReadTo s p → ReadTo s q → p ≡ q
+  one : {p q : Result Command Error} → ReadTo s p → ReadTo s q → p ≡ q
   one (is_command b h) (is_command c k) = ap Ok (encodes_unique b c h k)
   one (is_command b h) (is_unknown a n) = absurd (n b h)
   one (is_command b h) (is_invalid n) = absurd (n (encodes_command b h))
@@ -105,11 +105,11 @@ module _ (s : List ℕ) where
   read_unencodable a e = rw (unencodable s (candidate_in s) e) at (read_valid a)
 
   -- Each number is given exactly in its cause.
-  pub read_causes : {r : CommandResult} → ReadTo s r → ReadCauses s r
+  pub read_causes : {r : Result Command Error} → ReadTo s r → ReadCauses s r
   read_causes (is_command c h) = record {
     read = λ d. (
       λ q. let e = ap (λ x. x.value) q in let f : c ≡ d = cc in rw f at h,
-      λ k. ap (λ x. accepted (some x)) (encodes_unique c d h k),
+      λ k. ap (λ x. accepted (Some x)) (encodes_unique c d h k),
     );
     unique = encodes_unique;
     invalid = (λ z. absurd (omega arith), λ n. absurd (n (encodes_command c h)));

@@ -10,15 +10,14 @@ use Rattle.wire.proofs.Equality.{same_sound, same_complete}
 use Rattle.refusal.specs.declared.Error.{Error}
 use Rattle.refusal.specs.declared.Error.TheVariants.{Unsupported, UnknownCommand}
 use Rattle.writer.specs.Written.{written}
-use Rattle.writer.specs.declared.WriteResult.{WriteResult}
-use Rattle.writer.specs.declared.WriteResult.TheVariants as Write
-use Rattle.writer.proofs.Chain.{written_front, written_length}
+use Rattle.std.specs.Prelude.{Ok, Err}
+use Rattle.std.specs.declared.result.Result.{Result}
+use Rattle.writer.proofs.Chain.{written_front}
 use Rattle.writer.proofs.Writers.{Wrote, wrote_whole, wrote_all, none_good}
 use Rattle.command.specs.Command.{command_frame, encodable, unsupported}
 use Rattle.command_reader.specs.Candidate.{encodes_to, if_encodes_to}
 use Rattle.command_reader.specs.Read.{EncodesTo}
 use Rattle.command.specs.declared.Command.{Command}
-use Rattle.command_reader.specs.declared.CommandResult.TheVariants.{Ok, Err}
 use Rattle.command.proofs.Frames.{frame_bounds}
 
 module _ (s : List ℕ) (c : Command) where
@@ -48,22 +47,19 @@ module _ (s : List ℕ) (c : Command) where
 -- If the encoder answers Ok, the command's frame is at the front of the buffer; 30 bytes are enough for any frame.
 pub record Encoded (c : Command) (left : List ℕ) (n : ℕ) : Type 0 where
   pub good : encodable c ≡ true
-  pub inside : n ≤ length left
   pub front : take n left ≡ command_frame c
 
-module _ (c : Command) (out left : List ℕ) (r : WriteResult)
+module _ (c : Command) (out left : List ℕ) (r : Result ℕ Error)
     (h : Wrote (unsupported c) (command_frame c) out r left) where
-  pub encode_ok : (n : ℕ) → r ≡ Write.Ok n → Encoded c left n
+  pub encode_ok : (n : ℕ) → r ≡ Ok n → Encoded c left n
   encode_ok n e =
       let w = wrote_all (command_frame c) out left n (unsupported c) (rw e at h) in
-      let l = written_length out (command_frame c) w.fits in
       record {
         good = none_good (encodable c) Unsupported w.good;
-        inside = rw w.content (omega (arith, w.size, w.fits, l));
         front = rw (w.content, w.size) (written_front out (command_frame c));
       }
 
-  pub encode_refused : 30 ≤ length out → (e : Error) → r ≡ Write.Err e → encodable c ≡ false
+  pub encode_refused : 30 ≤ length out → (e : Error) → r ≡ Err e → encodable c ≡ false
   encode_refused room e q = go (encodable c) refl
     where
       go : (b : Bool) → encodable c ≡ b → encodable c ≡ false

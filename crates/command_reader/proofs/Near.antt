@@ -6,8 +6,11 @@ use mathlib.Core.Bool.{false, ◌&&◌}
 use Prim.Native.Nat.{ℕ, ◌/◌, ◌%◌}
 use native.Mathlib.Omega.{arith}
 use lib.Dec.{leb}
+use Rattle.std.specs.Prelude.{Err}
+use Rattle.std.specs.declared.result.Result.{Result}
+use Rattle.refusal.specs.declared.Error.{Error}
 use Rattle.refusal.specs.declared.Error.TheVariants.{UnknownCommand}
-use Rattle.wire.specs.Number.{little, le16_at}
+use Rattle.wire.specs.Number.{little, number_at}
 use Rattle.wire.specs.Family.{framed}
 use Rattle.cursor.specs.CommandFrame.{data_with}
 use Rattle.command.specs.Setting.{farthest}
@@ -19,8 +22,7 @@ use Rattle.command_reader.specs.CommandFrame.{number_in}
 use Rattle.command_reader.specs.Candidate.{candidate, candidate_in}
 use Rattle.command_reader.specs.Read.{ReadTo, returned_read}
 use Rattle.command_reader.specs.Claims.{NearGates}
-use Rattle.command_reader.specs.declared.CommandResult.{CommandResult}
-use Rattle.command_reader.specs.declared.CommandResult.TheVariants.{Err}
+use Rattle.command.specs.declared.Command.{Command}
 use Rattle.command_reader.proofs.Candidates.{low_byte}
 use Rattle.command_reader.proofs.CommandRead.{frame_command, read_unencodable, one_answer}
 
@@ -34,7 +36,7 @@ near_bytes i h = rw (low_byte i (omega arith)) (outside_refused i (inl h))
 
 module _ (m s n : ℕ) where
   gates_candidate : candidate_in (command_frame (SetMaxGates m s n)) ≡ SetMaxGates (two m % 256) (two s % 256) (two n)
-  unfolding candidate_in number_in le16_at candidate framed data_with
+  unfolding candidate_in number_in number_at candidate framed data_with
   gates_candidate = refl
 
   near_unencodable : TooNear m ⊎ TooNear s → encodable (candidate_in (command_frame (SetMaxGates m s n))) ≡ false
@@ -45,8 +47,8 @@ module _ (m s n : ℕ) where
       ((and_eq_false_iff (leb (two n) 65535) (p && q)).1
       (inr ((and_eq_false_iff p q).1 (⊎_map (near_bytes m) (near_bytes s) h))))
 
-pub near_unknown : (b : List ℕ) (r : CommandResult) → ReadTo b r → NearGates b r
+pub near_unknown : (b : List ℕ) (r : Result Command Error) → ReadTo b r → NearGates b r
 near_unknown b r h m s n k e =
     let near = read_unencodable (command_frame (SetMaxGates m s n)) (frame_command (SetMaxGates m s n)) in
     let u : ReadTo b (Err UnknownCommand) = rw e (near (near_unencodable m s n k)) in
-    ap (λ (x : CommandResult). (returned_read x).number) (one_answer b r (Err UnknownCommand) h u)
+    ap (λ (x : Result Command Error). (returned_read x).number) (one_answer b r (Err UnknownCommand) h u)

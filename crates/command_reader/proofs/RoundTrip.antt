@@ -17,7 +17,7 @@ use Rattle.cursor.specs.declared.command_frame.Value.TheVariants as Of
 use Rattle.command.specs.Command.{word_of, value_of, encodable}
 use Rattle.command.specs.declared.Command.{Command}
 use Rattle.command_reader.specs.Read.{EncodesTo, ReadTo, is_command, commands}
-use Rattle.command_reader.specs.declared.CommandResult.TheVariants.{Ok}
+use Rattle.std.specs.Prelude.{Ok}
 use Rattle.command_reader.proofs.CommandRead.{read_causes}
 
 -- The data of a command's frame are bytes.

@@ -3,15 +3,11 @@
 --   word_in s           the word of a frame: the first two bytes of its data, little-endian
 --   IsCommandFrame s   s is a frame by the checks F1 to F4, of the command family; its data have the two bytes of a
 --                      word, and the ACK bit of that word is clear
---   or_zero m           the number in m, or 0
 --   number_in s i       the two-byte number in s at place i, 0 if there are too few bytes
-use Rattle.std.specs.Prelude.{◌≡◌, List, ℕ, ◌/◌, ◌%◌, ◌≤◌, length, take}
+use Rattle.std.specs.Prelude.{◌≡◌, List, ℕ, ◌/◌, ◌%◌, ◌≤◌, length, take, unwrap_or, Some}
 use Rattle.refusal.specs.Check.{Passes}
 use Rattle.wire.specs.Number.{little, le16_at}
-use Rattle.wire.specs.declared.number.MaybeU16.{MaybeU16}
-use Rattle.wire.specs.declared.number.MaybeU16.TheVariants as U16
 use Rattle.wire.specs.declared.Kind.TheVariants as Family
-use Rattle.wire.specs.declared.MaybeKind.TheVariants as Found
 use Rattle.frame.specs.Envelope.{family, data_of, frame_checks}
 
 abbrev pub ack_bit : ℕ → ℕ
@@ -24,15 +20,11 @@ pub record IsCommandFrame (s : List ℕ) : Type 0 where
   -- "framed"
   pub checked : Passes frame_checks s
   -- not "a report header"
-  pub headed : family s ≡ Found.Some Family.Command
+  pub headed : family s ≡ Some Family.Command
   -- "word present": not "data under two bytes"
   pub worded : 2 ≤ length (data_of s)
   -- "ACK bit clear"
   pub clear : ack_bit (word_in s) ≡ 0
 
-abbrev pub or_zero : MaybeU16 → ℕ
-or_zero (U16.Some v) = v
-or_zero U16.None = 0
-
 unfoldable pub number_in : List ℕ → ℕ → ℕ
-number_in s i = or_zero (le16_at s i)
+number_in s i = unwrap_or (le16_at s i) 0

@@ -3,17 +3,14 @@ ghost use Rattle.std.specs.Prelude.{◌≡◌, ◌↔◌, true};
 ghost use Rattle.command_reader.specs.CommandFrame.{IsCommandFrame, number_in};
 
 use frame::{DATA_START, Envelope};
-use wire::{ACK_BIT, Kind, MaybeU16, le16};
+use wire::{ACK_BIT, Kind, le16};
 
 // Returns the two-byte number at `at`, or 0 if the bytes are too few.
 #[tactic(auto, unfolding(crate::specs::CommandFrame::number_in))]
 pub(crate) fn number_in(bytes: &[u8], at: usize) -> u16
     ensures read { result ≡ number_in bytes.now at }
 {
-    let MaybeU16::Some(v) = le16(bytes, at) else {
-        return 0;
-    };
-    v
+    le16(bytes, at).unwrap_or(0)
 }
 
 // Tests whether the bytes are the frame of a command, known or not: F1 to F4 hold, the kind is command, the data begin
@@ -21,14 +18,14 @@ pub(crate) fn number_in(bytes: &[u8], at: usize) -> u16
 pub(crate) fn is_command_frame(bytes: &[u8]) -> bool
     ensures tested { (result ≡ true) ↔ IsCommandFrame bytes.now }
 {
-    let Envelope::Data(kind, end) = Envelope::open(bytes) else {
+    let Ok(envelope) = Envelope::open(bytes) else {
         return false;
     };
-    if end < DATA_START + 2 {
+    if envelope.kind != Kind::Command {
         return false;
     }
-    match kind {
-        Kind::Report => false,
-        Kind::Command => number_in(bytes, DATA_START) / ACK_BIT % 2 == 0,
+    if envelope.end < DATA_START + 2 {
+        return false;
     }
+    number_in(bytes, DATA_START) / ACK_BIT % 2 == 0
 }

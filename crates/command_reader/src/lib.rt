@@ -13,11 +13,10 @@ ghost use Rattle.command_reader.specs.Candidate.{gate_for, baud_for, candidate, 
 ghost use Rattle.command_reader.specs.Read.{ReadTo, OneAnswer, ReadCauses, commands};
 ghost use Rattle.command_reader.specs.Claims.{NearGates};
 
-use command::{Baud, Command, Gate, MaybeBaud};
+use command::{Baud, Command, Gate};
 use command_frame::{is_command_frame, number_in};
 use refusal::Error;
 use wire::{bytes_eq, word};
-use writer::WriteResult;
 
 // Longest frame of a command.
 const MAX_COMMAND: usize = 30;
@@ -32,13 +31,6 @@ const FIRST: usize = 10;
 const SECOND: usize = 16;
 
 const THIRD: usize = 22;
-
-// The command that was read, or the refusal.
-#[derive(Clone, Copy)]
-pub enum CommandResult {
-    Ok(Command),
-    Err(Error),
-}
 
 // Returns the gate that a value means: all gates for FFFF, else the gate whose index is the value's lowest byte.
 #[tactic(auto, unfolding(crate::specs::Candidate::gate_for))]
@@ -57,10 +49,7 @@ fn gate_for(value: u16) -> Gate
 fn baud_for(index: u16) -> Baud
     ensures found { result ≡ baud_for index }
 {
-    let MaybeBaud::Some(baud) = Baud::from_index(index) else {
-        return Baud::B9600;
-    };
-    baud
+    Baud::from_index(index).unwrap_or(Baud::B9600)
 }
 
 // Returns the only command that can have this word, and this number as its value or these values in its records. For a
@@ -108,24 +97,24 @@ fn candidate_in(bytes: &[u8]) -> Command
 }
 
 // Returns the command if it encodes to the bytes; else refuses with 5.
-fn if_encodes_to(command: Command, bytes: &[u8]) -> CommandResult
+fn if_encodes_to(command: Command, bytes: &[u8]) -> Result<Command, Error>
     ensures read { result ≡ if_encodes_to bytes.now command }
 {
-    let mut frame: [u8; MAX_COMMAND] = [0; MAX_COMMAND];
-    let WriteResult::Ok(n) = command.encode(&mut frame) else {
-        return CommandResult::Err(Error::UnknownCommand);
+    let mut frame = [0; MAX_COMMAND];
+    let Ok(n) = command.encode(&mut frame) else {
+        return Err(Error::UnknownCommand);
     };
     if bytes_eq(&frame[..n], bytes) {
-        CommandResult::Ok(command)
+        Ok(command)
     } else {
-        CommandResult::Err(Error::UnknownCommand)
+        Err(Error::UnknownCommand)
     }
 }
 
 // Reads a command's frame, and returns the command that encodes to the bytes. Refuses with 1 what is not one whole
 // command frame with a word whose ACK bit is clear, then with 5 such a frame to which no command encodes. What
 // `Command::encode` writes is read as the command, and what is read is written again as the same bytes.
-pub fn read_command(bytes: &[u8]) -> CommandResult
+pub fn read_command(bytes: &[u8]) -> Result<Command, Error>
     ensures read { ReadTo bytes.now result }
     ensures alone { OneAnswer bytes.now }
     ensures causes { ReadCauses bytes.now result }
@@ -133,7 +122,7 @@ pub fn read_command(bytes: &[u8]) -> CommandResult
     ensures near { NearGates bytes.now result }
 {
     if !is_command_frame(bytes) {
-        return CommandResult::Err(Error::InvalidFormat);
+        return Err(Error::InvalidFormat);
     }
     if_encodes_to(candidate_in(bytes), bytes)
 }

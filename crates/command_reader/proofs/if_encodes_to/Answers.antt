@@ -18,11 +18,6 @@ returns-in_default c =
     let refused = encode_refused c.args.command room _ _ (e.told, e.left) (omega arith) _ c.in_default.is in
     record { read = sym (unencodable _ _ refused) }
 
-pub slice_bounds-frame-end : goal.slice_bounds-frame-end
-slice_bounds-frame-end c =
-    let e = c.encode.ensures in
-    (encode_ok c.args.command room _ _ (e.told, e.left) _ c.in-Ok.is).inside
-
 pub returns-then-bytes_eq : goal.returns-then-bytes_eq
 returns-then-bytes_eq c =
     let e = c.encode.ensures in

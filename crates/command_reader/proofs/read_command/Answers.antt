@@ -5,14 +5,15 @@ use Rattle.writer.specs.RoundTrip.{RoundTrip}
 use Rattle.command.specs.declared.Command.{Command}
 use Rattle.command_reader.specs.Read.{ReadTo, OneAnswer, ReadCauses, commands}
 use Rattle.command_reader.specs.Claims.{NearGates}
-use Rattle.command_reader.specs.declared.CommandResult.{CommandResult}
+use Rattle.std.specs.declared.result.Result.{Result}
+use Rattle.refusal.specs.declared.Error.{Error}
 use Rattle.command_reader.proofs.CommandRead.{read_invalid, read_valid, one_answer, read_causes}
 use Rattle.command_reader.proofs.RoundTrip.{commands_agree}
 use Rattle.command_reader.proofs.Near.{near_unknown}
 use Rattle.command_reader.proofs.read_command.Goals as goal
 
 -- What is to be shown, from the answer's rule.
-shown : (s : List ℕ) (r : CommandResult) → ReadTo s r
+shown : (s : List ℕ) (r : Result Command Error) → ReadTo s r
     → record {
       read : ReadTo s r;
       alone : OneAnswer s;
