@@ -100,14 +100,14 @@ module _ (s : List ℕ) where
 
     pub tail_off : pointwise eqb (drop (length r - 2) r) tail ≡ false → is_frame s ≡ false
     tail_off h = unframed (λ f.
-      let l : length r - 2 ≡ 24 = rw (left_in f, length-append f.held tail) (omega (arith, f.all_there)) in
-      false≢true (sym (rw (l, left_in f, drop_at f.held tail 24 f.all_there) at h)))
+        let l : length r - 2 ≡ 24 = rw (left_in f, length-append f.held tail) (omega (arith, f.all_there)) in
+        false≢true (sym (rw (l, left_in f, drop_at f.held tail 24 f.all_there) at h)))
 
     module _ (d : List ℕ) (i : d ≡ take (length r - 2) r) where
       pub length_off : length d ≢ 24 → is_frame s ≡ false
       length_off h = unframed (λ f.
-        let l : length r - 2 ≡ 24 = rw (left_in f, length-append f.held tail) (omega (arith, f.all_there)) in
-        h (ap length (i ∙ rw (l, left_in f) (take_at f.held tail 24 f.all_there)) ∙ f.all_there))
+          let l : length r - 2 ≡ 24 = rw (left_in f, length-append f.held tail) (omega (arith, f.all_there)) in
+          h (ap length (i ∙ rw (l, left_in f) (take_at f.held tail 24 f.all_there)) ∙ f.all_there))
 
       pub held_found : pointwise eqb (take 4 s) header ≡ true → pointwise eqb (drop (length r - 2) r) tail ≡ true
           → length d ≡ 24 → (is_frame s ≡ true) × (d ≡ held_in s)

@@ -61,9 +61,7 @@ pub fn read_targets(bytes: &[u8]) -> Result<[Target; TARGETS], Error>
     ensures writable { IfOk result (λ targets. all_writable targets ≡ true) }
     ensures examples { Examples }
 {
-    held_in(bytes)
-        .map(read_held)
-        .ok_or(Error::InvalidFormat)
+    held_in(bytes).map(read_held).ok_or(Error::InvalidFormat)
 }
 
 // Tests whether the reader can give each of the targets.
