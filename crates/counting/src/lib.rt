@@ -13,33 +13,25 @@ ghost use Rattle.counting.specs.Counts.{counts_of};
 ghost use Rattle.counting.specs.Counted.{FedAll, Line};
 ghost use Rattle.counting.specs.Reached.{Reached, read_len, turn_of, Turned};
 
-use ld2410::{Parser, feed_slice_at};
-use std::io;
+use ld2410::Parser;
 use std::io::{Read, Write};
-use wire::min;
+use std::{fmt, io};
 
 // Feeds all of `bytes`: a slice feed stops after each whole frame, and is called again with the rest. Any parser is
 // left as by feeding the bytes one by one, and has counted what demand 3 says; no bytes leave it as it was. The loop
-// keeps the parser in its parts and lends the buffer, so that no turn copies it.
+// lends the parser, so that no turn copies it.
 pub fn feed_all(parser: Parser, bytes: &[u8]) -> Parser
     ensures fed { result ≡ left parser (feeds bytes.now) }
     ensures bytes { Bytes bytes.now }
     ensures counted { FedAll (pending_by link_limit parser) parser bytes.now result }
 {
-    let mut buf = parser.buf;
-    let mut scan = parser.scan;
-    let mut stats = parser.stats;
+    let mut fed = parser;
     let mut i = 0;
     while i < bytes.len() {
-        let moved = feed_slice_at(&mut buf, scan, stats, &bytes[i..]);
-        let next = moved.scan;
-        scan = next;
-        let counted = moved.stats;
-        stats = counted;
-        let taken = moved.answer;
+        let taken = fed.feed_slice(&bytes[i..]);
         i += taken.count;
     }
-    Parser { buf, scan, stats }
+    fed
 }
 
 // The parser after a read, and whether more may come.
@@ -54,10 +46,7 @@ fn read_count(got: io::Result<usize>, most: usize) -> usize
     ensures counted { result ≡ read_len got most }
     ensures inside { result ≤ most }
 {
-    match got {
-        Ok(n) => min(n, most),
-        Err(_) => 0,
-    }
+    got.unwrap_or(0).min(most)
 }
 
 // Feeds the bytes that a read put at the start of `buf`, all those and no others; `got` is what the read answered. More
@@ -101,21 +90,18 @@ pub fn read_full<R: Read>(input: &mut R, buf: &mut [u8]) -> usize
 }
 
 // Feeds all that can be read from `input` to a fresh parser. A proved loop must end, and nothing says that an input does.
-// So the loop counts its turns down, from a number that no run uses up.
+// So the loop counts its turns, up to a number that no run reaches.
 pub fn read_all<R: Read>(input: &mut R) -> Parser
     ensures reached { Reached fresh result }
     ensures line { Line (counts_of result) }
 {
     let mut at = Parser::new();
-    let mut turns = u64::MAX;
-    while turns > 0 {
+    for _ in 0..u64::MAX {
         let turn = read_some(input, at);
-        let next = turn.parser;
-        at = next;
+        at = turn.parser;
         if !turn.more {
-            return at;
+            break;
         }
-        turns -= 1;
     }
     at
 }
@@ -146,26 +132,26 @@ impl Counts {
     }
 }
 
-// Prints the line `frames resyncs dropped malformed unfinished`: decimal, one space between, a line feed after. Returns
-// the numbers on it; no contract can name what is printed. What a writer refuses is lost.
+// The numbers in decimal, with one space between.
+impl fmt::Display for Counts {
+    fn fmt<W: fmt::Write>(&self, f: &mut fmt::Formatter<W>) -> fmt::Result {
+        let Counts {
+            frames,
+            resyncs,
+            dropped,
+            malformed,
+            unfinished,
+        } = self;
+        write!(f, "{frames} {resyncs} {dropped} {malformed} {unfinished}")
+    }
+}
+
+// Prints the line `frames resyncs dropped malformed unfinished`, and a line feed after it. Returns the numbers on it; no
+// contract can name what is printed. What a writer refuses is lost.
 pub fn print_counts<W: Write>(out: &mut W, parser: Parser) -> Counts
     ensures told { result ≡ counts_of parser }
 {
     let counts = Counts::of(parser);
-    print_line(out, counts);
+    let _ = writeln!(out, "{counts}");
     counts
-}
-
-fn print_line<W: Write>(out: &mut W, counts: Counts) {
-    print_number(out, counts.frames, b" ");
-    print_number(out, counts.resyncs, b" ");
-    print_number(out, counts.dropped, b" ");
-    print_number(out, counts.malformed, b" ");
-    print_number(out, counts.unfinished as u64, b"\n");
-}
-
-// Prints a number, and then `end`.
-fn print_number<W: Write>(out: &mut W, n: u64, end: &[u8]) {
-    let _ = write!(out, "{n}");
-    let _ = out.write_all(end);
 }
