@@ -1,10 +1,14 @@
--- The data part: bytes copied into the buffer, one after the other.
+-- The data part: bytes copied into the buffer.
 use mathlib.Core.Path.{◌≡◌, refl, sym, ap, ◌∙◌}
-use mathlib.Core.List.{List}
+use mathlib.Core.List.{List, ◌++◌}
 use mathlib.Core.Bool.{true}
-use Prim.Native.Nat.{ℕ, ◌+◌, ◌-◌, ◌≤◌, ◌<◌, min}
+use Prim.Native.Nat.{ℕ, zero, suc, ◌+◌, ◌-◌, ◌≤◌, ◌<◌, min}
 use native.Mathlib.Omega.{arith}
-use lib.ListN.{length, get_or, set}
+use lib.ListN.{length, get_or, set, take, drop, length-take, length-drop}
+use lib.Seq.{paste, paste-zero, paste-suc, get_or-drop, take_all}
+use borrow.Rule.Slice.PartMut.{put_mid}
+use Rattle.std.proofs.lemmas.Slice.{put_mid-paste}
+use Rattle.std.specs.Prelude.{None}
 use Rattle.wire.specs.declared.Kind.{Kind}
 use Rattle.scan.specs.Scan.{at, well_formed}
 use Rattle.scan.specs.Start.{continued}
@@ -14,7 +18,6 @@ use Rattle.step.specs.Phase.{run_from, on_from, AtState, PartialRun, DataRun}
 use Rattle.scan.specs.declared.State.TheVariants.{Data, Tail}
 use Rattle.scan.specs.declared.Scan.{Scan}
 use Rattle.scan.specs.declared.stats.Stats.{Stats}
-use Rattle.scan.specs.declared.stats.Ended.TheVariants.{Nothing}
 use Rattle.scan.specs.declared.stats.Scanned.{Scanned}
 use Rattle.scan.proofs.Orders.{data_range, data_inside, data_most, data_at_formed}
 use Rattle.step.proofs.Runs.{run_next, run_on}
@@ -39,28 +42,41 @@ min_due limit c bs i n h e =
       few = data_most limit c h.order h.state;
     }
 
--- The run from byte i, with p of n data bytes taken, is the run from byte i + j, with j more taken and d the buffer.
-abbrev pub Copied : ℕ → Kind → ℕ → ℕ → Stats → List ℕ → List ℕ → ℕ → List ℕ → ℕ → Type 0
-Copied limit k n p st buf bs i d j =
-    run_from limit (data_at k n (p + j)) st d bs (i + j) ≡ run_from limit (at Data k 0 n p) st buf bs i
+-- The run from byte i, with p of n data bytes taken, is the run from byte i + j, with j more copied into the buffer.
+abbrev pub Copied : ℕ → Kind → ℕ → ℕ → Stats → List ℕ → List ℕ → ℕ → ℕ → Type 0
+Copied limit k n p st buf bs i j = run_from limit (data_at k n (p + j)) st (paste buf p (drop i bs) j) bs (i + j)
+    ≡ run_from limit (at Data k 0 n p) st buf bs i
 
 module _ (limit : ℕ) (k : Kind) (n p : ℕ) (st : Stats) (buf bs : List ℕ) (i : ℕ) where
-  pub copied_none : p < n → Copied limit k n p st buf bs i buf 0
-  copied_none l =
-      ap (λ q. run_from limit (data_at k n q) st buf bs (i + 0)) (omega arith)
+  copied_none : p < n → Copied limit k n p st buf bs i 0
+  copied_none l = rw (← paste-zero buf p (drop i bs))
+      (ap (λ q. run_from limit (data_at k n q) st buf bs (i + 0)) (omega arith)
       ∙ ap (λ q. run_from limit (data_at k n p) st buf bs q) (omega arith)
-      ∙ ap (λ q. run_from limit q st buf bs i) (data_some k n p l)
+      ∙ ap (λ q. run_from limit q st buf bs i) (data_some k n p l))
 
-  pub copied_more : (d : List ℕ) (j : ℕ) → p + j < n → i + j < length bs → Copied limit k n p st buf bs i d j
-      → Copied limit k n p st buf bs i (set d (p + j) (get_or bs (i + j) 0)) (j + 1)
+  -- One more byte is stored at the place p + j.
+  stored_next : (j : ℕ) → p + j < length buf → i + j < length bs
+      → set (paste buf p (drop i bs) j) (p + j) (get_or bs (i + j) 0) ≡ paste buf p (drop i bs) (suc j)
+  stored_next j inner there =
+      rw (← get_or-drop i bs j 0) (paste-suc buf p (drop i bs) j 0 inner (omega (arith, length-drop i bs)))
+
+  copied_more : (j : ℕ) → p + j < n → n ≤ length buf → i + j < length bs → Copied limit k n p st buf bs i j
+      → Copied limit k n p st buf bs i (suc j)
   unfolding step_of stored
-  copied_more d j l inner h =
+  copied_more j l room inner h =
+      let d = paste buf p (drop i bs) j in
       let b = get_or bs (i + j) 0 in
-      ap (λ q. run_from limit (data_at k n q) st (set d (p + j) b) bs (i + (j + 1))) (omega arith)
+      rw (← stored_next j (omega arith) inner)
+      (ap (λ q. run_from limit (data_at k n q) st (set d (p + j) b) bs (i + suc j)) (omega arith)
       ∙ ap (λ q. run_from limit (data_at k n (p + j + 1)) st (set d (p + j) b) bs q) (omega arith)
       ∙ run_on limit (at Data k 0 n (p + j)) st d bs (i + j) (continued (data_at k n (p + j + 1)) st) (set d (p + j) b)
       inner (sym (data_step st k n (p + j))) refl refl
-      ∙ ap (λ q. run_from limit q st d bs (i + j)) (sym (data_some k n (p + j) l)) ∙ h
+      ∙ ap (λ q. run_from limit q st d bs (i + j)) (sym (data_some k n (p + j) l)) ∙ h)
+
+  copied_all : (j : ℕ) → p < n → p + j ≤ n → n ≤ length buf → i + j ≤ length bs → Copied limit k n p st buf bs i j
+  copied_all zero some due room there = copied_none some
+  copied_all (suc j) some due room there =
+      copied_more j (omega arith) room (omega arith) (copied_all j some (omega arith) room (omega arith))
 
 -- Among the data bytes, the field `matched` has no effect.
 data_forgets : (limit : ℕ) (c : Scan) (st : Stats) (buf bs : List ℕ) (i : ℕ) → c.state ≡ Data → i < length bs
@@ -76,19 +92,44 @@ data_forgets limit c st buf bs i e l =
 tail_no_data : Tail ≡ Data → ⊥
 tail_no_data e = let z : ◌≡◌ {A = ℕ} 0 1 = cc in omega arith
 
--- All data bytes that are due, or left in bs if fewer, n of them, are copied to d.
-pub record AllCopied (limit : ℕ) (c : Scan) (st : Stats) (buf bs : List ℕ) (i : ℕ) (d : List ℕ) (n : ℕ) : Type 0 where
-  pub start : AtState limit Data c bs i
-  pub fewest : n ≡ min (c.len - c.pos) (length bs - i)
-  pub came : Copied limit c.kind c.len c.pos st buf bs i d n
+-- A write of the next n of bs at the place p.
+put_paste : (d s ys : List ℕ) (p k n : ℕ) → ys ≡ take n s → k ≡ n → n ≤ length s → put_mid p k d ys ≡ paste d p s n
+put_paste d s ys p k n e f l =
+    put_mid-paste p k d ys (take n s) n e (sym f) (omega (arith, length-take n s))
+    ∙ ap (λ (t : List ℕ). (take p d ++ t) ++ drop (p + n) d) (take_all n (take n s) (omega (arith, length-take n s)))
 
-module _ {limit : ℕ} {c : Scan} {st : Stats} {buf bs : List ℕ} {i : ℕ} {d : List ℕ} {n : ℕ}
-    (x : AllCopied limit c st buf bs i d n) where
+-- All data bytes that are due, or left in bs if fewer, n of them, are copied to d.
+pub record AllCopied (limit : ℕ) (c : Scan) (buf bs : List ℕ) (i : ℕ) (d : List ℕ) (n : ℕ) : Type 0 where
+  pub start : AtState limit Data c bs i
+  pub room : limit ≤ length buf
+  pub fewest : n ≡ min (c.len - c.pos) (length bs - i)
+  pub copied : d ≡ paste buf c.pos (drop i bs) n
+
+-- So does the write of a part of bs.
+pub copied_by : (limit : ℕ) (c : Scan) (buf bs ys : List ℕ) (i n : ℕ) → AtState limit Data c bs i → limit ≤ length buf
+    → n ≡ min (c.len - c.pos) (length bs - i) → ys ≡ take (i + n - i) (drop i bs)
+    → AllCopied limit c buf bs i (put_mid c.pos (c.pos + n - c.pos) buf ys) n
+copied_by limit c buf bs ys i n at room fewest e =
+    let count : i + n - i ≡ n = omega arith in
+    let inside = at.inside in
+    record {
+      start = at;
+      room = room;
+      fewest = fewest;
+      copied = put_paste buf (drop i bs) ys c.pos (c.pos + n - c.pos) n (rw count at e) (omega arith)
+          (omega (arith, length-drop i bs));
+    }
+
+module _ {limit : ℕ} {c : Scan} {buf bs : List ℕ} {i : ℕ} {d : List ℕ} {n : ℕ} (x : AllCopied limit c buf bs i d n)
+    (st : Stats) where
   all : Due limit c bs i n
   all = min_due limit c bs i n x.start x.fewest
 
   copied_same : run_from limit (data_at c.kind c.len (c.pos + n)) st d bs (i + n) ≡ run_from limit c st buf bs i
-  copied_same = x.came ∙ data_forgets limit c st buf bs i x.start.state x.start.inside
+  copied_same =
+      let h : Due limit c bs i n = all in
+      rw x.copied (copied_all limit c.kind c.len c.pos st buf bs i n (omega arith) h.due (omega (arith, x.room)) h.there
+      ∙ data_forgets limit c st buf bs i x.start.state x.start.inside)
 
   copied_order : well_formed limit (data_at c.kind c.len (c.pos + n)) ≡ true
   copied_order =
@@ -96,7 +137,7 @@ module _ {limit : ℕ} {c : Scan} {st : Stats} {buf bs : List ℕ} {i : ℕ} {d 
 
   copied_run : (c' : Scan) → c' ≡ data_at c.kind c.len (c.pos + n)
       → (i + n < length bs → c'.state ≡ Data → ⊥)
-      → DataRun limit c st buf bs i (record { scan = c'; stats = st; ended = Nothing; taken = i + n }) d
+      → DataRun limit c st buf bs i (record { scan = c'; stats = st; ended = None; taken = i + n }) d
   copied_run c' e p = record {
     forth = omega arith;
     inside = all.there;
@@ -108,19 +149,19 @@ module _ {limit : ℕ} {c : Scan} {st : Stats} {buf bs : List ℕ} {i : ℕ} {d 
 
   -- Either no byte is left.
   pub copied_last : i + n ≡ length bs → DataRun limit c st buf bs i
-      (record { scan = data_at c.kind c.len (c.pos + n); stats = st; ended = Nothing; taken = i + n }) d
+      (record { scan = data_at c.kind c.len (c.pos + n); stats = st; ended = None; taken = i + n }) d
   copied_last e = copied_run _ refl (λ l. absurd (omega arith))
 
   -- Or all data bytes are copied, and the tail follows.
   pub copied_whole : (i + n ≡ length bs → ⊥) → DataRun limit c st buf bs i
-      (record { scan = at Tail c.kind 0 c.len c.len; stats = st; ended = Nothing; taken = i + n }) d
+      (record { scan = at Tail c.kind 0 c.len c.len; stats = st; ended = None; taken = i + n }) d
   copied_whole more = copied_run _
       (sym (data_whole c.kind c.len (c.pos + n) (omega (arith, all.there, x.fewest)))) (λ l. tail_no_data)
 
 -- Outside the data nothing is copied.
 pub copied_nothing : (limit : ℕ) (c : Scan) (st : Stats) (buf bs : List ℕ) (i : ℕ) → well_formed limit c ≡ true
     → i < length bs → (c.state ≡ Data → ⊥)
-    → DataRun limit c st buf bs i (record { scan = c; stats = st; ended = Nothing; taken = i }) buf
+    → DataRun limit c st buf bs i (record { scan = c; stats = st; ended = None; taken = i }) buf
 copied_nothing limit c st buf bs i o l n = record {
   forth = omega arith;
   inside = omega arith;

@@ -4,17 +4,16 @@ use mathlib.Core.Bool.{Bool, true, false, true≢false}
 use Prim.Native.Nat.{ℕ, ◌+◌, ◌*◌}
 use lib.Dec.{eqb}
 use lib.ListN.{get_or}
+use Rattle.std.specs.Prelude.{Some, None}
+use Rattle.std.specs.declared.option.Option.{Option}
 use Rattle.wire.specs.Family.{header, tail, starting_with}
 use Rattle.wire.specs.declared.Kind.{Kind}
-use Rattle.wire.specs.declared.MaybeKind.{MaybeKind}
-use Rattle.wire.specs.declared.MaybeKind.TheVariants.{Some, None}
 use Rattle.stream.specs.Length.{in_range}
 use Rattle.scan.specs.Start.{abandoned, start_as, start_of}
 use Rattle.step.specs.Step.{step_header, step_len, step_tail, step_in_state}
 use Rattle.scan.specs.declared.State.{State}
 use Rattle.scan.specs.declared.State.TheVariants.{Header, Len, Data, Tail}
 use Rattle.scan.specs.declared.stats.Stats.{Stats}
-use Rattle.scan.specs.declared.stats.Ended.TheVariants.{Nothing}
 use Rattle.scan.specs.declared.stats.Stepped.{Stepped}
 use Rattle.step.proofs.Turns.{either}
 
@@ -26,12 +25,12 @@ is_in_tail Tail = true
 
 -- The step r ended no frame, and leads to no tail.
 record Early (r : Stepped) : Type 0 where
-  pub quiet : r.ended ≡ Nothing
+  pub quiet : r.ended ≡ None
   pub early : is_in_tail r.scan.state ≡ false
 
 -- The step r from the state s: if it stays in s, it ends no frame; if it leads to a tail, s is the tail.
 pub record Leads (s : State) (r : Stepped) : Type 0 where
-  pub quiet : r.scan.state ≡ s → r.ended ≡ Nothing
+  pub quiet : r.scan.state ≡ s → r.ended ≡ None
   pub tail : r.scan.state ≡ Tail → s ≡ Tail
 
 early_leads : (s : State) (r : Stepped) → Early r → Leads s r
@@ -40,7 +39,7 @@ early_leads s r h = record {
   tail = λ e. absurd (true≢false (ap is_in_tail (sym e) ∙ h.early));
 }
 
-start_as_lem : (st : Stats) (o : MaybeKind) → Early (start_as st o)
+start_as_lem : (st : Stats) (o : Option Kind) → Early (start_as st o)
 start_as_lem st (Some k) = record { quiet = refl; early = refl }
 start_as_lem st None = record { quiet = refl; early = refl }
 

@@ -3,6 +3,7 @@
 --   Turn     the loop's turn there: r is the step of byte j, which stores nothing
 use mathlib.Core.Path.{◌≡◌, refl, sym, ◌∙◌}
 use mathlib.Core.List.{List}
+use mathlib.Core.Logic.{◌⊎◌, inl, inr}
 use Prim.Native.Nat.{ℕ, ◌+◌, ◌≤◌, ◌<◌}
 use native.Mathlib.Omega.{arith}
 use lib.ListN.{length, get_or}
@@ -69,7 +70,7 @@ module _ {limit : ℕ} {c : Scan} {st : Stats} {bs : List ℕ} {i : ℕ} {c' : S
       }
 
   -- Or it goes on in its state.
-  pub turn_stays : r.scan.state ≡ c.state → j + 1 < length bs → Within limit c st bs i r.scan r.stats (j + 1)
+  turn_stays : r.scan.state ≡ c.state → j + 1 < length bs → Within limit c st bs i r.scan r.stats (j + 1)
   turn_stays z inner = record {
     here = record {
       order = rw t.step (step_order limit (get_or bs j 0) c' st' t.within.here.order t.byte);
@@ -83,5 +84,7 @@ module _ {limit : ℕ} {c : Scan} {st : Stats} {bs : List ℕ} {i : ℕ} {c' : S
   }
 
   -- It does so if the step leads to a tail.
-  pub turn_tail : r.scan.state ≡ Tail → j + 1 < length bs → Within limit c st bs i r.scan r.stats (j + 1)
-  turn_tail z inner = turn_stays (z ∙ sym (leads.tail z)) inner
+  pub turn_on : (r.scan.state ≡ Tail) ⊎ (r.scan.state ≡ c.state) → j + 1 < length bs
+      → Within limit c st bs i r.scan r.stats (j + 1)
+  turn_on (inl z) inner = turn_stays (z ∙ sym (leads.tail z)) inner
+  turn_on (inr z) inner = turn_stays z inner

@@ -8,6 +8,7 @@ use scan::{Stats, Stepped, hunting};
 use wire::{Kind, bump};
 
 // Counts a frame in progress that is given up after `consumed` bytes.
+#[tactic(auto, unfolding(scan::specs::Start::abandoned))]
 pub(crate) fn abandon(stats: Stats, consumed: usize) -> Stats
     ensures counted { result ≡ abandoned stats consumed }
 {
@@ -56,6 +57,7 @@ pub(crate) fn count(stats: Stats, decodes: bool) -> Stats
 }
 
 // Treats `byte` as a possible first header byte.
+#[tactic(auto, unfolding(scan::specs::Start::start_of))]
 pub(crate) fn start(stats: Stats, byte: u8) -> Stepped
     ensures started { result ≡ start_of stats byte }
 {

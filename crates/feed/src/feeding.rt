@@ -97,6 +97,7 @@ fn without_frame(run: Scanned) -> MovedSlice
 }
 
 // Feeds one byte, by the engine `E`, to the parser that the lent buffer, the scan and the counters make up.
+#[tactic(auto, unfolding(crate::specs::Moved::moved_of, crate::specs::Moved::buf_of))]
 pub fn feed_by<E: Engine>(buf: &mut [u8; MAX_FRAME], scan: Scan, stats: Stats, byte: u8) -> Moved
     ensures moved { (result ≡ moved_of link_limit scan stats buf.old byte)
         × (buf.new ≡ buf_of link_limit scan buf.old byte) }
@@ -107,6 +108,7 @@ pub fn feed_by<E: Engine>(buf: &mut [u8; MAX_FRAME], scan: Scan, stats: Stats, b
 
 // Feeds bytes, by the engine `E`, up to and including the end of the first whole frame, decoded or not, else all of
 // them.
+#[tactic(auto, unfolding(crate::specs::Moved::slice_moved_of, crate::specs::Moved::slice_buf_of))]
 pub fn feed_slice_by<E: Engine>(
     buf: &mut [u8; MAX_FRAME],
     scan: Scan,

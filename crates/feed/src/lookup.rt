@@ -51,6 +51,7 @@ impl Tables {
     }
 
     // Returns the state after a matching state on the byte.
+    #[tactic(auto, using(tables::proofs::Due::class_most))]
     fn next(&self, state: usize, byte: u8) -> u8
         requires { state < 16 }
         ensures next { result ≡ next_of state (class_of byte) }
@@ -111,11 +112,13 @@ fn step_to(state: u8, taken: usize, len: usize, stats: Stats) -> Stepped
 }
 
 impl Matcher for Tables {
+    #[tactic(auto, using(crate::proofs::States::header_row, crate::proofs::States::header_same))]
     fn header(&self, kind: Kind, matched: usize, stats: Stats, byte: u8) -> Stepped {
         let next = self.next(header_state(kind, matched), byte);
         step_to(next, matched, 0, stats)
     }
 
+    #[tactic(auto, using(crate::proofs::States::tail_row, crate::proofs::States::tail_same))]
     fn tail(&self, kind: Kind, matched: usize, len: usize, stats: Stats, byte: u8) -> Stepped {
         let next = self.next(tail_state(kind, matched), byte);
         step_to(next, 4 + 2 + len + matched, len, stats)
@@ -123,10 +126,12 @@ impl Matcher for Tables {
 }
 
 impl Engine for Tables {
+    #[tactic(auto, using(scan::proofs::Orders::or_reset_formed))]
     fn step(buf: &mut [u8; MAX_FRAME], scan: Scan, stats: Stats, byte: u8) -> Stepped {
         Tables::new().take(buf, or_reset(scan), stats, byte)
     }
 
+    #[tactic(auto, using(scan::proofs::Orders::or_reset_formed))]
     fn run(buf: &mut [u8; MAX_FRAME], scan: Scan, stats: Stats, bytes: &[u8]) -> Scanned {
         Tables::new().take_slice(buf, or_reset(scan), stats, bytes)
     }

@@ -80,10 +80,12 @@ impl Matcher for Branches {
 }
 
 impl Engine for Branches {
+    #[tactic(auto, using(scan::proofs::Orders::or_reset_formed))]
     fn step(buf: &mut [u8; MAX_FRAME], scan: Scan, stats: Stats, byte: u8) -> Stepped {
         Branches.take(buf, or_reset(scan), stats, byte)
     }
 
+    #[tactic(auto, using(scan::proofs::Orders::or_reset_formed))]
     fn run(buf: &mut [u8; MAX_FRAME], scan: Scan, stats: Stats, bytes: &[u8]) -> Scanned {
         Branches.take_slice(buf, or_reset(scan), stats, bytes)
     }

@@ -1,13 +1,13 @@
 -- The run of a slice, byte by byte and part by part.
-use mathlib.Core.Path.{◌≡◌, refl, ap, ◌∙◌}
+use mathlib.Core.Path.{◌≡◌, refl, sym, ap, ◌∙◌}
 use mathlib.Core.List.{List}
-use mathlib.Core.Bool.{true}
+use mathlib.Core.Bool.{true, false, true≢false}
 use Prim.Native.Nat.{ℕ, suc, ◌+◌, ◌≤◌, ◌<◌}
 use native.Mathlib.Numerals.{add-one}
 use native.Mathlib.Omega.{arith}
 use lib.ListN.{length, drop, get_or, drop_of_length-le}
 use lib.Seq.{drop-cons}
-use Rattle.std.specs.Prelude.{Some, None}
+use Rattle.std.specs.Prelude.{Some, None, is_some}
 use Rattle.std.specs.declared.option.Option.{Option}
 use Rattle.scan.specs.Scan.{well_formed}
 use Rattle.step.specs.Step.{step_of, stored}
@@ -83,12 +83,18 @@ module _ {limit : ℕ} {whole : Run} {c : Scan} {st : Stats} {buf bs : List ℕ}
 
   -- The next part.
   module _ {r : Scanned} {d : List ℕ} (f : PartialRun limit c st buf bs i r d) where
-    pub left_frame : {x : Ended} → r.ended ≡ Some x → record { scanned = r; buf = d } ≡ whole
+    pub left_frame : is_some r.ended ≡ true → record { scanned = r; buf = d } ≡ whole
     unfolding on_from
-    left_frame q =
-        let rest = rw q at f.rest in
-        rw q (rest ∙ h.rest)
+    left_frame q = go r.ended refl q
+      where
+        go : (e : Option Ended) → r.ended ≡ e → is_some e ≡ true → record { scanned = r; buf = d } ≡ whole
+        go (Some x) z q = let rest = rw z at f.rest in rw z (rest ∙ h.rest)
+        go None z q = absurd (true≢false (sym q))
 
-    pub left_on : r.ended ≡ None → Left limit whole r.scan r.stats d bs r.taken
+    pub left_on : is_some r.ended ≡ false → Left limit whole r.scan r.stats d bs r.taken
     unfolding on_from
-    left_on q = record { inside = f.inside; order = f.order; rest = (rw q at f.rest) ∙ h.rest }
+    left_on q = record { inside = f.inside; order = f.order; rest = go r.ended refl q }
+      where
+        go : (e : Option Ended) → r.ended ≡ e → is_some e ≡ false → run_from limit r.scan r.stats d bs r.taken ≡ whole
+        go (Some x) z q = absurd (true≢false q)
+        go None z q = let rest = rw z at f.rest in rest ∙ h.rest

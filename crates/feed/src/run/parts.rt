@@ -1,10 +1,10 @@
 // The run of a slice by branches: the data are copied, and one loop takes the parts of a frame that are not stored, so
 // that a byte moves no more than it must.
-ghost use Rattle.std.specs.Prelude.{◌≡◌, List, true, ℕ, ◌<◌, length};
+ghost use Rattle.std.specs.Prelude.{◌≡◌, ◌⊎◌, List, true, ℕ, ◌<◌, length};
 ghost use Rattle.stream.specs.Length.{link_limit};
 ghost use Rattle.scan.specs.Scan.{well_formed};
 ghost use Rattle.step.specs.Phase.{AtState, PartialRun, DataRun};
-ghost use Rattle.scan.specs.declared.State.TheVariants.{Data};
+ghost use Rattle.scan.specs.declared.State.TheVariants.{Data, Tail};
 
 use super::Branches;
 use crate::body::{continued, step_data, step_len, taking};
@@ -39,8 +39,20 @@ fn take_data(
     }
 }
 
+// Tests whether a part that is not stored goes on after a step from `state` to `next`. Only a tail leads to a tail, so
+// the arm for it compares no state.
+fn stays(state: State, next: State) -> bool
+    ensures same { result ≡ true → (next ≡ Tail) ⊎ (next ≡ state) }
+{
+    match next {
+        State::Header | State::Len => next == state,
+        State::Data => false,
+        State::Tail => true,
+    }
+}
+
 // Takes the bytes of a part that is not stored: a header, a length or a tail. The arm for data is never taken; a step
-// of its own there costs the others nothing. Only a tail leads to a tail, so the arm for it compares no state.
+// of its own there costs the others nothing.
 fn take_part(scan: Scan, stats: Stats, bytes: &[u8], from: usize) -> Scanned
     requires { AtState link_limit scan.state scan bytes.now from × (scan.state ≡ Data → ⊥) }
     ensures partial { (buf : List ℕ) → PartialRun link_limit scan stats buf bytes.now from result buf }
@@ -58,12 +70,7 @@ fn take_part(scan: Scan, stats: Stats, bytes: &[u8], from: usize) -> Scanned
             State::Tail => Branches.tail(kind, at.matched, at.len, counted, bytes[i]),
         };
         i += 1;
-        let on = match stepped.scan.state {
-            State::Header | State::Len => stepped.scan.state == state && i < bytes.len(),
-            State::Data => false,
-            State::Tail => i < bytes.len(),
-        };
-        if !on {
+        if i == bytes.len() || !stays(state, stepped.scan.state) {
             break taking(stepped, i);
         }
         at = stepped.scan;

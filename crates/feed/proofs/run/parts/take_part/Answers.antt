@@ -1,17 +1,13 @@
 -- `feed::parts::take_part` meets its contract. The loop's invariant is `Within`: the state is that in which the loop
 -- began, and the run from here is the run from the start. The measure is how many bytes are left. Assumes nothing.
-use borrow.Author.Tests.{ltb-true}
-use mathlib.Core.Path.{◌≡◌, sym, ◌∙◌}
-use mathlib.Core.Bool.{true, true≢false}
-use Prim.Native.Nat.{◌+◌}
+use mathlib.Core.Path.{◌∙◌}
 use native.Mathlib.Omega.{arith}
 use Rattle.stream.specs.Length.{link_limit}
 use Rattle.scan.specs.declared.State.TheVariants.{Header, Len, Tail}
 use Rattle.scan.proofs.Orders.{header_matched, length_small, tail_matched, tail_most}
-use Rattle.feed.proofs.Phases.{Within, Turn, within_start, turn_in, turn_ends, turn_stays, turn_tail}
+use Rattle.feed.proofs.Phases.{Turn, within_start, turn_in, turn_ends, turn_on}
 use Rattle.feed.proofs.run.parts.take_part.Goals as goal
-use Rattle.feed.proofs.run.parts.take_part.Goals.{Joined-state, Joined-then, in-Header, in-Len, in-Data, in-Tail}
-use Rattle.feed.proofs.run.parts.take_part.Goals.{in-Header-then+in-Header-state, in-Header-then+in-Len-state, in-Len-then+in-Len-state-2, in-Len-then+in-Header-state-2, in-Data-then, in-Tail-then}
+use Rattle.feed.proofs.run.parts.take_part.Goals.{Joined-state, in-Header, in-Len, in-Data, in-Tail}
 
 -- The loop's turn, after the step of its byte.
 turn : (c : Joined-state) → Turn link_limit c.args.scan c.args.stats c.args.bytes.now c.args.from c.loop-at.at
@@ -20,24 +16,10 @@ turn c =
     let l = c.loop-at.invariant in
     let fits = c.type_inv.bytes c.loop-at.i in
     elim c.match-state.branch [
-      | in-Header w ↦ turn_in Header l w.in-Header.is (w.stepped-is ∙ w.step_header-stepped.ensures.stepped) (omega (arith, fits))
+      | in-Header w ↦ turn_in Header l w.in-Header.is (w.stepped-is ∙ w.header-stepped.ensures.stepped) (omega (arith, fits))
       | in-Len w ↦ turn_in Len l w.in-Len.is (w.stepped-is ∙ w.step_len-stepped.ensures.stepped) (omega (arith, fits))
       | in-Data w ↦ absurd (l.other w.in-Data.is)
-      | in-Tail w ↦ turn_in Tail l w.in-Tail.is (w.stepped-is ∙ w.step_tail-stepped.ensures.stepped) (omega (arith, fits))
-    ]
-
--- A turn after which the loop goes on.
-going : (c : Joined-then) → Turn link_limit c.args.scan c.args.stats c.args.bytes.now c.args.from c.loop-at.at
-    c.loop-at.counted c.loop-at.i c.match-state.stepped → c.match-then.on ≡ true → Within link_limit c.args.scan c.args.stats c.args.bytes.now
-    c.args.from c.match-state.stepped.scan c.match-state.stepped.stats (c.loop-at.i + 1)
-going c t on =
-    elim c.match-then.branch [
-      | in-Header-then+in-Header-state w ↦ turn_stays t (w.in-Header-then.is ∙ sym w.in-Header-state.is) (ltb-true _ _ (sym w.on-is ∙ on))
-      | in-Header-then+in-Len-state w ↦ absurd (true≢false (sym on ∙ w.on-is))
-      | in-Len-then+in-Len-state-2 w ↦ turn_stays t (w.in-Len-then.is ∙ sym w.in-Len-state-2.is) (ltb-true _ _ (sym w.on-is ∙ on))
-      | in-Len-then+in-Header-state-2 w ↦ absurd (true≢false (sym on ∙ w.on-is))
-      | in-Data-then w ↦ absurd (true≢false (sym on ∙ w.on-is))
-      | in-Tail-then w ↦ turn_tail t w.in-Tail-then.is (ltb-true _ _ (sym w.on-is ∙ on))
+      | in-Tail w ↦ turn_in Tail l w.in-Tail.is (w.stepped-is ∙ w.tail-stepped.ensures.stepped) (omega (arith, fits))
     ]
 
 pub loop-at-init : goal.loop-at-init
@@ -46,8 +28,8 @@ loop-at-init c = within_start c.requires.0 c.requires.1
 pub bounds-bytes-i : goal.bounds-bytes-i
 bounds-bytes-i c = c.loop-at.invariant.here.inside
 
-pub step_header-stepped-requires : goal.step_header-stepped-requires
-step_header-stepped-requires c = header_matched link_limit _ c.loop-at.invariant.here.order (c.loop-at.invariant.here.state ∙ c.in-Header.is)
+pub header-stepped-requires : goal.header-stepped-requires
+header-stepped-requires c = header_matched link_limit _ c.loop-at.invariant.here.order (c.loop-at.invariant.here.state ∙ c.in-Header.is)
 
 pub bounds-bytes-i-in-Len : goal.bounds-bytes-i-in-Len
 bounds-bytes-i-in-Len c = c.loop-at.invariant.here.inside
@@ -61,8 +43,8 @@ step_data-stepped-requires c = absurd (c.loop-at.invariant.other c.in-Data.is)
 pub bounds-bytes-i-in-Tail : goal.bounds-bytes-i-in-Tail
 bounds-bytes-i-in-Tail c = c.loop-at.invariant.here.inside
 
-pub step_tail-stepped-requires : goal.step_tail-stepped-requires
-step_tail-stepped-requires c = let e = c.loop-at.invariant.here.state ∙ c.in-Tail.is in
+pub tail-stepped-requires : goal.tail-stepped-requires
+tail-stepped-requires c = let e = c.loop-at.invariant.here.state ∙ c.in-Tail.is in
     (tail_matched link_limit _ c.loop-at.invariant.here.order e, tail_most link_limit _ c.loop-at.invariant.here.order e)
 
 pub overflow_add-i : goal.overflow_add-i
@@ -72,7 +54,10 @@ pub loop-at-smaller : goal.loop-at-smaller
 loop-at-smaller c = omega (arith, (turn (goal.at.loop-at-smaller c).Joined-state).within.here.inside)
 
 pub loop-at-preserved : goal.loop-at-preserved
-loop-at-preserved c = going (goal.at.loop-at-preserved c).Joined-then (turn (goal.at.loop-at-preserved c).Joined-state) c.if-not-on.false
+loop-at-preserved c =
+    let t = turn (goal.at.loop-at-preserved c).Joined-state in
+    let inside = t.within.here.inside in
+    turn_on t (c.stays.ensures.same c.if-not-stays.false) (omega arith)
 
 pub returns : goal.returns
 returns c = record { partial = rw c.taking.ensures.scanned (turn_ends (turn (goal.at.returns c).Joined-state)) }
