@@ -2,44 +2,17 @@
 use mathlib.Core.Path.{◌≡◌, refl, sym, ap, ◌∙◌}
 use mathlib.Core.List.{List, [], ◌++◌, append-nil}
 use mathlib.Core.Bool.{Bool, true, false, cond}
-use Prim.Native.Nat.{ℕ, ◌+◌, ◌-◌, ◌≤◌, ◌<◌, min}
-use native.Mathlib.Numerals.{add-one}
+use Prim.Native.Nat.{ℕ, ◌+◌, ◌-◌, ◌≤◌, min}
 use native.Mathlib.Omega.{arith}
 use lib.Dec.{eqb, leb, ltb}
-use lib.ListN.{length, take, drop, set, get_or, length-take, length-drop}
-use lib.Seq.{take-suc, take-suc-set, take-take, take-add, drop-drop, drop-set-lt, get_or-drop}
-use borrow.Author.Tests.{lt-ltb, le-ltb, le-leb, lt-leb, eq-eqb, ne_eqb, ltb-false, leb-true}
+use lib.ListN.{length, take, drop, length-take, length-drop}
+use lib.Seq.{take-take, take-add}
+use borrow.Author.Tests.{ltb-false, leb-true}
 use Rattle.replay_io.specs.Argument.{field_at}
 use Rattle.replay_io.specs.Case.{case_size, found_in, decided, sized, unread, next_at, read_of, used_of, unused}
 use Rattle.replay_io.specs.Case.{NextCase, Grown}
 use Rattle.replay_io.specs.declared.input.Found.TheVariants.{Case, Long, Short, End}
 use Rattle.replay_io.specs.declared.input.Next.{Next}
-
--- What is found, from the tests.
-module _ (s : List ℕ) (n : ℕ) (e : n ≡ field_at 4 s 1) where
-  pub found_long : 70000 < n → Long ≡ found_in s
-  unfolding found_in
-  found_long h = rw (lt-ltb 70000 (field_at 4 s 1) (omega arith))
-
-  module _ (fits : n ≤ 70000) where
-    not_long : ltb 70000 (field_at 4 s 1) ≡ false
-    not_long = le-ltb 70000 (field_at 4 s 1) (omega arith)
-
-    pub found_case : 5 + n ≤ length s → Case ≡ found_in s
-    unfolding found_in
-    found_case h = rw (not_long, le-leb (case_size s) (length s) (omega arith))
-
-    module _ (cut : length s < 5 + n) where
-      not_whole : leb (case_size s) (length s) ≡ false
-      not_whole = lt-leb (case_size s) (length s) (omega arith)
-
-      pub found_end : length s ≡ 0 → End ≡ found_in s
-      unfolding found_in
-      found_end h = rw (not_long, not_whole, eq-eqb (length s) 0 h)
-
-      pub found_short : (length s ≡ 0 → ⊥) → Short ≡ found_in s
-      unfolding found_in
-      found_short h = rw (not_long, not_whole, ne_eqb (length s) 0 h)
 
 -- A case that is found is no longer than the bytes, nor than the longest case.
 module _ (s : List ℕ) where
@@ -61,8 +34,8 @@ module _ (b : List ℕ) (i n : ℕ) (ordered : i ≤ n) (inside : n ≤ length b
   unread_length : length (unread b i n) ≡ n - i
   unread_length = simp (length-take, length-drop) (omega arith)
 
-  pub next-end : i + sized (found_in (unread b i n)) (unread b i n) ≤ n
-  next-end = let l = unread_length in let h = (sized_within (unread b i n)).0 in omega arith
+  pub next_end : i + sized (found_in (unread b i n)) (unread b i n) ≤ n
+  next_end = let l = unread_length in let h = (sized_within (unread b i n)).0 in omega arith
 
   next_small : i + sized (found_in (unread b i n)) (unread b i n) ≤ i + 70005
   next_small = let h = (sized_within (unread b i n)).1 in omega arith
@@ -91,7 +64,7 @@ next_still b x r d e =
     let w : read_of b x ≤ length b = omega arith in
     rw e (record {
       ordered = omega arith;
-      inside = next-end b (used_of b x) (read_of b x) o w;
+      inside = next_end b (used_of b x) (read_of b x) o w;
       within = w;
       small = next_small b (used_of b x) (read_of b x) o w;
       told = refl;
@@ -110,7 +83,7 @@ next-front b x b' r n more d w e k =
     let o : 0 ≤ n = omega arith in
     rw e (record {
       ordered = omega arith;
-      inside = next-end b' 0 n o w;
+      inside = next_end b' 0 n o w;
       within = w;
       small = next_small b' 0 n o w;
       told = refl;
@@ -119,30 +92,6 @@ next-front b x b' r n more d w e k =
       still = λ q. let z : ◌≡◌ {A = ℕ} 0 1 = cc in absurd (omega arith);
       front = λ q. refl;
     })
-
--- Moving bytes to the front, one more each turn: those from place i + 1 on stay as they were.
-module _ (b₀ b : List ℕ) (u i : ℕ) (moved : take i b ≡ take i (drop u b₀)) (rest : drop i b ≡ drop i b₀) where
-  element : get_or b (u + i) 0 ≡ get_or b₀ (u + i) 0
-  element =
-      let e : u + i ≡ i + u = omega arith in
-      rw (e, ← get_or-drop i b u 0, ← get_or-drop i b₀ u 0, rest)
-
-  pub moved_next : i < length b → u + i < length b₀
-      → take (i + 1) (set b i (get_or b (u + i) 0)) ≡ take (i + 1) (drop u b₀)
-  moved_next h k =
-      let l : i < length (drop u b₀) = simp length-drop (omega arith) in
-      rw (
-        add-one i,
-        take-suc-set b i (get_or b (u + i) 0) h,
-        take-suc (drop u b₀) i 0 l,
-        get_or-drop u b₀ i 0,
-        moved,
-        element,
-      )
-
-  pub rest_next : (a : ℕ) → drop (i + 1) (set b i a) ≡ drop (i + 1) b₀
-  rest_next a =
-      drop-set-lt (i + 1) b i a (omega arith) ∙ rw (← drop-drop 1 i b, ← drop-drop 1 i b₀, rest)
 
 -- Reading after the first k bytes: nothing is read; two readings are one.
 pub grown_none : (b : List ℕ) (k : ℕ) → k ≤ length b → Grown b k b k

@@ -7,6 +7,7 @@ use native.Mathlib.Nat.{div-lt_iff_lt-mul, le-div_iff_mul-le, mod-eq_of_lt, pow-
 use borrow.Author.Tests.{lt-ltb, le-ltb}
 use Rattle.io.specs.Digits.{last_digits, IsDigitCount}
 use Rattle.replay_io.specs.Line.{spelled, decimal_of}
+use Rattle.replay_io.proofs.Puts.{put_one}
 
 pub decimal_one : (v : ℕ) → v < 10 → decimal_of v ≡ (48 + v) ∷ []
 unfolding decimal_of
@@ -52,3 +53,6 @@ digits_spelled (suc k) (suc (suc r)) v f h =
 pub digits_decimal : (v r : ℕ) → v < 18446744073709551616 → IsDigitCount 10 1 v r → last_digits 10 r v ≡ decimal_of v
 unfolding decimal_of
 digits_decimal v r h f = let b : v < 10 ^ 20 = omega arith in digits_spelled 19 r v f b
+
+-- The digits of a number are put: the one that it has, or all.
+pub ruleset digits_put = (put_one, decimal_one, digits_decimal)

@@ -1,8 +1,4 @@
 -- Laws about the definitions, which the proofs of this crate cite.
--- Parts of a list at places that may be past its end.
-pub mod Parts
--- The fields of an argument.
-pub mod Fields
 -- Bytes put one after the other.
 pub mod Puts
 -- The decimal digits of a number.
@@ -11,5 +7,7 @@ pub mod Decimals
 pub mod Numbers
 -- Numbers of sixteen bits with a sign.
 pub mod Signs
+-- The answers of a run.
+pub mod Runs
 -- Cases in a buffer.
 pub mod Cases

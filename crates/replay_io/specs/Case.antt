@@ -9,7 +9,8 @@
 --   unread b i n        the bytes of the buffer b from place i to place n
 --   nothing_read         what comes before the first case
 --   next_at b i n        the next case, if the bytes of b from place i to place n are read and not used
---   read_of b x, used_of b x   after the case x, how many bytes of the buffer b are read, and how many of these are used
+--   read_of b x         after the case x, how many bytes of the buffer b are read
+--   used_of b x         after the case x, how many of these are used
 --   unused b x          the bytes that are read and not used
 --   NextCase b x b' r   after the case x of the buffer b, r is the next, and it lies in the buffer b'
 --   Grown b k b' n      the buffer b' begins with the first k bytes of b, and n of its bytes are read

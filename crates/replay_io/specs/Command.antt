@@ -5,31 +5,30 @@
 --   baud_command i   `SetBaud`: "index; one that no rate has is no COMMAND"
 --   numbered k s    the command with the number k and the bytes s, by the table; none if no line has the number
 --   command_in s     the command that the bytes s say
-use Rattle.std.specs.Prelude.{List, Bool, true, false, cond, ℕ, eqb}
+use Rattle.std.specs.Prelude.{List, Bool, true, false, cond, ℕ, eqb, Some, None}
+use Rattle.std.specs.declared.option.Option.{Option}
 use Rattle.command.specs.Setting.{baud_of}
 use Rattle.command.specs.declared.setting.Gate.{Gate}
 use Rattle.command.specs.declared.setting.Gate.TheVariants.{Index, All}
-use Rattle.command.specs.declared.setting.MaybeBaud.{MaybeBaud}
-use Rattle.command.specs.declared.setting.MaybeBaud.TheVariants as Rate
+use Rattle.command.specs.declared.setting.Baud.{Baud}
+use Rattle.command.specs.declared.Command.{Command}
 use Rattle.command.specs.declared.Command.TheVariants.{EnableConfig, EndConfig, SetMaxGates, ReadParameters}
 use Rattle.command.specs.declared.Command.TheVariants.{EngineeringMode, SetSensitivity, ReadFirmware, SetBaud}
 use Rattle.command.specs.declared.Command.TheVariants.{FactoryReset, Restart, Bluetooth, ReadMac}
 use Rattle.replay_io.specs.Argument.{field_at, flag_at}
-use Rattle.replay_io.specs.declared.commands.MaybeCommand.{MaybeCommand}
-use Rattle.replay_io.specs.declared.commands.MaybeCommand.TheVariants.{Some, None}
 
 abbrev pub gate_of : Bool → ℕ → Gate
 gate_of true i = All
 gate_of false i = Index i
 
-abbrev pub rate_set : MaybeBaud → MaybeCommand
-rate_set (Rate.Some b) = Some (SetBaud b)
-rate_set Rate.None = None
+abbrev pub rate_set : Option Baud → Option Command
+rate_set (Some b) = Some (SetBaud b)
+rate_set None = None
 
-unfoldable pub baud_command : ℕ → MaybeCommand
+unfoldable pub baud_command : ℕ → Option Command
 baud_command i = rate_set (baud_of i)
 
-unfoldable pub numbered : ℕ → List ℕ → MaybeCommand
+unfoldable pub numbered : ℕ → List ℕ → Option Command
 numbered k s =
     cond (eqb k 0) (Some EnableConfig)
     (cond (eqb k 1) (Some EndConfig)
@@ -44,5 +43,5 @@ numbered k s =
     (cond (eqb k 10) (Some (Bluetooth (flag_at s 1)))
     (cond (eqb k 11) (Some ReadMac) None)))))))))))
 
-abbrev pub command_in : List ℕ → MaybeCommand
+abbrev pub command_in : List ℕ → Option Command
 command_in s = numbered (field_at 1 s 0) s

@@ -3,3 +3,4 @@ pub mod Command
 pub mod Script
 pub mod Line
 pub mod Case
+pub mod Answers

@@ -1,5 +1,6 @@
 -- The lines of the answers, as they gather in a buffer of 65,536 bytes. Quotations are from docs/REPLAY.md.
 --   Gathered       a buffer, and how many of its bytes are taken
+--   fresh          a buffer with nothing taken: zeros
 --   place n        where the next byte goes: after the n that are taken, or to the front once a full buffer is written
 --   put_byte g b    the buffer after the byte b was put; put_all g s, after the bytes s, one after another
 --   spelled k v    the decimal digits of a number v that has at most k of them
@@ -10,13 +11,16 @@
 --   line_feed       "a line feed after"
 --   closing f      the line that ends the answers: "Input that ends inside a case prints `short` and stops; an `n`
 --                  above 70,000 prints `long` and stops. Input that ends between two cases prints nothing more."
-use Rattle.std.specs.Prelude.{List, [], ◌∷◌, ◌++◌, cond, ℕ, zero, suc, ◌+◌, ◌/◌, ◌%◌, ltb, ℤ, pos, negsuc, set}
+use Rattle.std.specs.Prelude.{List, [], ◌∷◌, ◌++◌, cond, ℕ, zero, suc, ◌+◌, ◌/◌, ◌%◌, ltb, ℤ, pos, negsuc, set, replicate}
 use Rattle.io.specs.Digits.{hex_digit_ascii}
 use Rattle.replay_io.specs.declared.input.Found.{Found}
 use Rattle.replay_io.specs.declared.input.Found.TheVariants.{Case, Long, Short, End}
 
 pub data Gathered : Type 0 where
   gathered : List ℕ → ℕ → Gathered
+
+unfoldable pub fresh : Gathered
+fresh = gathered (replicate 65536 0) 0
 
 unfoldable pub place : ℕ → ℕ
 place n = cond (ltb n 65536) n 0

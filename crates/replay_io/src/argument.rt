@@ -3,16 +3,14 @@
 ghost use Rattle.std.specs.Prelude.{◌≡◌, drop};
 ghost use Rattle.replay_io.specs.Argument.{field_at, flag_at};
 
-use wire::{MaybeU8, MaybeU16, MaybeU32, byte_at, le16, le32, min};
+use wire::{byte_at, le16, le32};
 
 // Reads the byte at a place.
+#[tactic(auto, unfolding(crate::specs::Argument::field_at))]
 pub fn u8_at(argument: &[u8], at: usize) -> u8
     ensures read { result ≡ field_at 1 argument.now at }
 {
-    match byte_at(argument, at) {
-        MaybeU8::Some(x) => x,
-        MaybeU8::None => 0,
-    }
+    byte_at(argument, at).unwrap_or(0)
 }
 
 // Reads a truth value: any number but 0 counts as 1.
@@ -23,29 +21,25 @@ pub fn flag_at(argument: &[u8], at: usize) -> bool
 }
 
 // Reads the number in two bytes.
+#[tactic(auto, unfolding(crate::specs::Argument::field_at))]
 pub fn u16_at(argument: &[u8], at: usize) -> u16
     ensures read { result ≡ field_at 2 argument.now at }
 {
-    match le16(argument, at) {
-        MaybeU16::Some(x) => x,
-        MaybeU16::None => 0,
-    }
+    le16(argument, at).unwrap_or(0)
 }
 
 // Reads the number in four bytes.
+#[tactic(auto, unfolding(crate::specs::Argument::field_at))]
 pub fn u32_at(argument: &[u8], at: usize) -> u32
     ensures read { result ≡ field_at 4 argument.now at }
 {
-    match le32(argument, at) {
-        MaybeU32::Some(x) => x,
-        MaybeU32::None => 0,
-    }
+    le32(argument, at).unwrap_or(0)
 }
 
 // Returns the bytes from a place on; none if the argument is not as long.
 pub fn rest(argument: &[u8], at: usize) -> &[u8]
     ensures left { result.now ≡ drop at argument.now }
 {
-    let start = min(at, argument.len());
+    let start = at.min(argument.len());
     &argument[start..]
 }

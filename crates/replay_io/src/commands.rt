@@ -1,30 +1,23 @@
 // The COMMAND of an argument: six bytes.
 ghost use Rattle.std.specs.Prelude.{◌≡◌};
-ghost use Rattle.replay_io.specs.Command.{command_in, numbered, gate_of, baud_command};
+ghost use Rattle.replay_io.specs.Command.{command_in, numbered, gate_of};
 
 use crate::argument::{flag_at, u8_at, u16_at};
-use command::{Baud, Command, Gate, MaybeBaud};
-
-// A command, if the bytes are one.
-#[derive(Clone, Copy)]
-pub enum MaybeCommand {
-    Some(Command),
-    None,
-}
+use command::{Baud, Command, Gate};
 
 // Reads the command that the bytes are; a missing byte counts as 0, and those after the sixth are ignored.
-pub fn command_in(six: &[u8]) -> MaybeCommand
+pub fn command_in(six: &[u8]) -> Option<Command>
     ensures read { result ≡ command_in six.now }
 {
     numbered(u8_at(six, 0), six)
 }
 
 // Reads the command with the number, its values from the bytes after it.
-#[tactic(auto, unfolding(crate::specs::Command::numbered))]
-fn numbered(number: u8, six: &[u8]) -> MaybeCommand
+#[tactic(auto, unfolding(crate::specs::Command::numbered, crate::specs::Command::baud_command))]
+fn numbered(number: u8, six: &[u8]) -> Option<Command>
     ensures read { result ≡ numbered number six.now }
 {
-    MaybeCommand::Some(match number {
+    Some(match number {
         0 => Command::EnableConfig,
         1 => Command::EndConfig,
         2 => Command::SetMaxGates {
@@ -40,12 +33,12 @@ fn numbered(number: u8, six: &[u8]) -> MaybeCommand
             stationary: u8_at(six, 4),
         },
         6 => Command::ReadFirmware,
-        7 => return set_baud(u8_at(six, 1)),
+        7 => Command::SetBaud(Baud::from_index(u16::from(u8_at(six, 1)))?),
         8 => Command::FactoryReset,
         9 => Command::Restart,
         10 => Command::Bluetooth(flag_at(six, 1)),
         11 => Command::ReadMac,
-        _ => return MaybeCommand::None,
+        _ => return None,
     })
 }
 
@@ -54,15 +47,4 @@ fn gate(all: bool, index: u8) -> Gate
     ensures meant { result ≡ gate_of all index }
 {
     if all { Gate::All } else { Gate::Index(index) }
-}
-
-// Returns the command that sets the rate with the index, if there is one.
-#[tactic(auto, unfolding(crate::specs::Command::baud_command))]
-fn set_baud(index: u8) -> MaybeCommand
-    ensures read { result ≡ baud_command index }
-{
-    match Baud::from_index(index as u16) {
-        MaybeBaud::Some(baud) => MaybeCommand::Some(Command::SetBaud(baud)),
-        MaybeBaud::None => MaybeCommand::None,
-    }
 }

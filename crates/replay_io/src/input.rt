@@ -5,7 +5,6 @@ ghost use Rattle.replay_io.specs.Case.{found_in, decided, is_case, sized, nothin
 
 use crate::argument::u32_at;
 use std::io::Read;
-use wire::min;
 
 // Bytes of a buffer that holds any case.
 pub const SIZE: usize = 131_072;
@@ -17,7 +16,7 @@ pub const HEAD: usize = 5;
 const LONGEST: u32 = 70_000;
 
 // What comes next in the input.
-#[derive(Clone, Copy)]
+#[derive(Clone, Copy, PartialEq, Eq)]
 pub enum Found {
     // A whole case.
     Case,
@@ -44,13 +43,7 @@ impl Next {
     pub fn is_case(self) -> bool
         ensures tested { result ≡ is_case self.found }
     {
-        let found = self.found;
-        match found {
-            Found::Case => true,
-            Found::Long => false,
-            Found::Short => false,
-            Found::End => false,
-        }
+        self.found == Found::Case
     }
 }
 
@@ -74,11 +67,10 @@ pub fn nothing_read() -> Next
 pub fn next_case<R: Read>(from: &mut R, input: &mut [u8], case: Next) -> Next
     ensures found { NextCase input.old case input.new result }
 {
-    let read = min(case.read, input.len());
-    let start = min(case.end, read);
+    let read = case.read.min(input.len());
+    let start = case.end.min(read);
     let next = next_at(input, start, read);
-    let found = next.found;
-    if is_decided(found) {
+    if is_decided(next.found) {
         return next;
     }
     let kept = keep(input, start, read);
@@ -87,6 +79,7 @@ pub fn next_case<R: Read>(from: &mut R, input: &mut [u8], case: Next) -> Next
 }
 
 // Returns the case at the front of the bytes from `start` to `read`.
+#[tactic(auto, using(crate::proofs::Cases::next_end), unfolding(crate::specs::Case::next_at))]
 fn next_at(input: &[u8], start: usize, read: usize) -> Next
     requires ordered { start ≤ read }
     requires inside { read ≤ length input.now }
@@ -104,6 +97,7 @@ fn next_at(input: &[u8], start: usize, read: usize) -> Next
 }
 
 // Returns what is at the front of the bytes, if nothing follows them.
+#[tactic(auto, unfolding(crate::specs::Case::found_in))]
 fn found_in(bytes: &[u8]) -> Found
     ensures found { result ≡ found_in bytes.now }
 {
@@ -128,9 +122,7 @@ fn size_of(found: Found, bytes: &[u8]) -> usize
 {
     match found {
         Found::Case => HEAD + u32_at(bytes, 1) as usize,
-        Found::Long => 0,
-        Found::Short => 0,
-        Found::End => 0,
+        Found::Long | Found::Short | Found::End => 0,
     }
 }
 
@@ -138,12 +130,7 @@ fn size_of(found: Found, bytes: &[u8]) -> usize
 fn is_decided(found: Found) -> bool
     ensures tested { result ≡ decided found }
 {
-    match found {
-        Found::Case => true,
-        Found::Long => true,
-        Found::Short => false,
-        Found::End => false,
-    }
+    matches!(found, Found::Case | Found::Long)
 }
 
 // Moves the bytes from `used` to `end` to the front, and returns how many they are.
@@ -153,17 +140,13 @@ fn keep(input: &mut [u8], used: usize, end: usize) -> usize
     ensures counted { result ≡ end - used }
     ensures moved { take result input.new ≡ take (end - used) (drop used input.old) }
 {
-    let kept = end - used;
-    let mut i = 0;
-    while i < kept {
-        input[i] = input[used + i];
-        i += 1;
-    }
-    kept
+    input.copy_within(used..end, 0);
+    end - used
 }
 
 // Reads after the bytes that are kept at the front, until a case is whole or too long, or nothing comes. Returns how
 // many bytes the buffer has then.
+#[tactic(auto, using(crate::proofs::Cases::grown_none, crate::proofs::Cases::grown_more))]
 fn fill<R: Read>(from: &mut R, input: &mut [u8], kept: usize) -> usize
     requires inside { kept ≤ length input.old }
     ensures grown { Grown input.old kept input.new result }

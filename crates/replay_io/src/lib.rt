@@ -3,6 +3,7 @@
 
 #![tactic(auto)]
 
+pub mod answers;
 pub mod argument;
 pub mod commands;
 pub mod input;

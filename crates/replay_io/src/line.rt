@@ -1,204 +1,176 @@
 // The lines of the answers. They gather in a buffer, which goes to its writer whenever it is full.
 //
-// Each function takes the buffer and how many of its bytes are taken, and returns how many are taken then. No contract
-// can name what is printed: each says what the buffer holds then, and that after a full buffer a byte is put in front.
-// What a writer refuses is lost, and the answers go on.
-ghost use Rattle.std.specs.Prelude.{◌≡◌, [], ◌∷◌, nat_abs, take};
-ghost use Rattle.replay_io.specs.Line.{gathered, place, put_byte, put_all};
+// No contract can name what is printed: each says what the buffer holds then, and that after a full buffer a byte is
+// put in front. What a writer refuses is lost, and the answers go on.
+ghost use Rattle.std.specs.Prelude.{◌≡◌, [], ◌∷◌};
+ghost use Rattle.replay_io.specs.Line.{fresh, put_byte, put_all};
 ghost use Rattle.replay_io.specs.Line.{decimal_of, numbers_of, signed_text, none_text, line_feed, closing};
 
 use crate::input::Found;
 use std::io::{Stdout, Write};
-use wire::min;
+use std::marker::Model;
 
 // Bytes of the buffer.
 pub const SIZE: usize = 65_536;
 
-// The buffer, and the writer that it goes to.
+// The buffer, how many of its bytes are taken, and the writer that it goes to. A contract sees the first two.
 #[derive(Drop)]
 pub struct Buffer<W> {
-    pub bytes: [u8; SIZE],
-    pub to: W,
+    bytes: [u8; SIZE],
+    taken: usize,
+    to: W,
+}
+
+impl<W> Model for Buffer<W> {
+    ghost use Rattle.replay_io.specs.Line.{Gathered, gathered};
+
+    ghost Value = { Gathered };
+
+    ghost view = { λ b. gathered b.bytes b.taken };
 }
 
 // The buffer of a program's answers.
 pub type Text = Buffer<Stdout>;
 
-// A few numbers of a line, with zeros after them.
-pub type Row = [u64; 7];
-
-// Returns where the next byte goes: after those that are taken, or in front once a full buffer is written.
-#[tactic(auto, using(crate::proofs::Puts::place_after, crate::proofs::Puts::place_front))]
-fn room<W: Write>(out: &mut Buffer<W>, taken: usize) -> usize
-    ensures found { result ≡ place taken }
-    ensures kept { out.new.bytes ≡ out.old.bytes }
-{
-    if taken < SIZE {
-        return taken;
+impl<W: Write> Buffer<W> {
+    // Makes a buffer that goes to a writer. Nothing is taken yet.
+    #[tactic(auto, unfolding(crate::specs::Line::fresh))]
+    pub fn new(to: W) -> Self
+        ensures empty { result ≡ fresh }
+    {
+        Buffer {
+            bytes: [0; SIZE],
+            taken: 0,
+            to,
+        }
     }
-    let _ = out.to.write_all(&out.bytes);
-    0
-}
 
-// Puts a byte.
-#[tactic(auto, using(crate::proofs::Puts::place_below), unfolding(crate::specs::Line::put_byte))]
-fn put<W: Write>(out: &mut Buffer<W>, taken: usize, byte: u8) -> usize
-    ensures put { gathered out.new.bytes result
-        ≡ put_byte (gathered out.old.bytes taken) byte }
-{
-    let at = room(out, taken);
-    out.bytes[at] = byte;
-    at + 1
-}
-
-// Puts bytes as they are.
-fn literal<W: Write>(out: &mut Buffer<W>, taken: usize, bytes: &[u8]) -> usize
-    ensures put { gathered out.new.bytes result
-        ≡ put_all (gathered out.old.bytes taken) bytes.now }
-{
-    let mut n = taken;
-    let mut i = 0;
-    while i < bytes.len() {
-        n = put(out, n, bytes[i]);
-        i += 1;
+    // Puts a byte, once a full buffer is written.
+    #[tactic(auto, using(crate::proofs::Puts::put_full, crate::proofs::Puts::put_room))]
+    fn put(&mut self, byte: u8)
+        ensures put { self.new ≡ put_byte self.old byte }
+    {
+        if self.taken >= SIZE {
+            let _ = self.to.write_all(&self.bytes);
+            self.taken = 0;
+        }
+        self.bytes[self.taken] = byte;
+        self.taken += 1;
     }
-    n
-}
 
-// Puts a number in decimal.
-fn decimal<W: Write>(out: &mut Buffer<W>, taken: usize, value: u64) -> usize
-    ensures put { gathered out.new.bytes result
-        ≡ put_all (gathered out.old.bytes taken) (decimal_of value) }
-{
-    if value < 10 {
-        return put(out, taken, b'0' + value as u8);
+    // Puts bytes as they are.
+    #[tactic(auto, using(crate::proofs::Puts::put_next), unfolding(crate::specs::Line::put_all))]
+    fn literal(&mut self, bytes: &[u8])
+        ensures put { self.new ≡ put_all self.old bytes.now }
+    {
+        for byte in bytes {
+            self.put(*byte);
+        }
     }
-    let mut digits = [0u8; 20];
-    let k = io::decimal(value, &mut digits);
-    literal(out, taken, &digits[..k])
-}
 
-// Puts the op that a line begins with.
-pub fn op<W: Write>(out: &mut Buffer<W>, taken: usize, op: u8) -> usize
-    ensures put { gathered out.new.bytes result
-        ≡ put_all (gathered out.old.bytes taken) (decimal_of op) }
-{
-    decimal(out, taken, op as u64)
-}
-
-// Puts a number after a space.
-pub fn number<W: Write>(out: &mut Buffer<W>, taken: usize, value: u64) -> usize
-    ensures put { gathered out.new.bytes result
-        ≡ put_all (gathered out.old.bytes taken) (numbers_of (value ∷ [])) }
-{
-    let n = put(out, taken, b' ');
-    decimal(out, n, value)
-}
-
-// Returns how far a number is from 0. One below 0 is widened first, since 32,768 does not fit 16 bits with a sign.
-fn magnitude(value: i16) -> u64
-    ensures told { result ≡ nat_abs value }
-{
-    if value < 0 {
-        return (0 - (value as i32)) as u64;
+    // Puts a number in decimal.
+    #[tactic(auto, using(crate::proofs::Decimals::digits_put))]
+    fn decimal(&mut self, value: u64)
+        ensures put { self.new ≡ put_all self.old (decimal_of value) }
+    {
+        if value < 10 {
+            self.put(b'0' + value as u8);
+            return;
+        }
+        let mut digits = [0u8; 20];
+        let count = io::decimal(value, &mut digits);
+        self.literal(&digits[..count]);
     }
-    value as u64
-}
 
-// Puts a number after a space, with a minus sign if it is below 0.
-pub fn signed<W: Write>(out: &mut Buffer<W>, taken: usize, value: i16) -> usize
-    ensures put { gathered out.new.bytes result
-        ≡ put_all (gathered out.old.bytes taken) (signed_text value) }
-{
-    if value < 0 {
-        let n = literal(out, taken, b" -");
-        return decimal(out, n, magnitude(value));
+    // Puts the op that a line begins with.
+    pub fn op(&mut self, op: u8)
+        ensures put { self.new ≡ put_all self.old (decimal_of op) }
+    {
+        self.decimal(u64::from(op));
     }
-    number(out, taken, magnitude(value))
-}
 
-// Puts the first `count` numbers of a row; all of them if it has no more.
-pub fn row<W: Write>(out: &mut Buffer<W>, taken: usize, values: Row, count: usize) -> usize
-    ensures put { gathered out.new.bytes result
-        ≡ put_all (gathered out.old.bytes taken) (numbers_of (take count values)) }
-{
-    let end = min(count, 7);
-    let mut n = taken;
-    let mut i = 0;
-    while i < end {
-        n = number(out, n, values[i]);
-        i += 1;
+    // Puts a number after a space.
+    #[tactic(auto, using(crate::proofs::Numbers::number_put))]
+    pub fn number(&mut self, value: u64)
+        ensures put { self.new ≡ put_all self.old (numbers_of (value ∷ [])) }
+    {
+        self.put(b' ');
+        self.decimal(value);
     }
-    n
-}
 
-// Returns a byte as a number of a line.
-fn wide(byte: u8) -> u64
-    ensures same { result ≡ byte }
-{
-    byte as u64
-}
-
-// Puts each of the bytes as a number.
-pub fn bytes<W: Write>(out: &mut Buffer<W>, taken: usize, values: &[u8]) -> usize
-    ensures put { gathered out.new.bytes result
-        ≡ put_all (gathered out.old.bytes taken) (numbers_of values.now) }
-{
-    let mut n = taken;
-    let mut i = 0;
-    while i < values.len() {
-        n = number(out, n, wide(values[i]));
-        i += 1;
+    // Puts a number after a space, with a minus sign if it is below 0.
+    #[tactic(auto, using(crate::proofs::Signs::signed_minus, crate::proofs::Signs::signed_plus))]
+    pub fn signed(&mut self, value: i16)
+        ensures put { self.new ≡ put_all self.old (signed_text value) }
+    {
+        if value < 0 {
+            self.literal(b" -");
+            self.decimal(u64::from(value.unsigned_abs()));
+        } else {
+            self.number(u64::from(value.unsigned_abs()));
+        }
     }
-    n
-}
 
-// Says that the case has no answer.
-pub fn none<W: Write>(out: &mut Buffer<W>, taken: usize) -> usize
-    ensures put { gathered out.new.bytes result
-        ≡ put_all (gathered out.old.bytes taken) none_text }
-{
-    literal(out, taken, b" none")
-}
-
-// Ends a line.
-#[tactic(auto, unfolding(crate::specs::Line::put_all))]
-pub fn end<W: Write>(out: &mut Buffer<W>, taken: usize) -> usize
-    ensures put { gathered out.new.bytes result
-        ≡ put_all (gathered out.old.bytes taken) line_feed }
-{
-    put(out, taken, b'\n')
-}
-
-// Says why the answers end before the input does, if they do, and writes what the buffer then has.
-pub fn finish<W: Write>(out: &mut Buffer<W>, taken: usize, found: Found) -> usize
-    ensures put { gathered out.new.bytes result
-        ≡ put_all (gathered out.old.bytes taken) (closing found) }
-{
-    let n = close(out, taken, found);
-    flush(out, n);
-    n
-}
-
-// Puts the line that ends the answers, if there is one.
-#[tactic(auto, using(crate::proofs::Puts::put_nil))]
-fn close<W: Write>(out: &mut Buffer<W>, taken: usize, found: Found) -> usize
-    ensures put { gathered out.new.bytes result
-        ≡ put_all (gathered out.old.bytes taken) (closing found) }
-{
-    match found {
-        Found::Case => taken,
-        Found::Long => literal(out, taken, b"long\n"),
-        Found::Short => literal(out, taken, b"short\n"),
-        Found::End => taken,
+    // Puts numbers, each after a space.
+    #[tactic(auto, using(crate::proofs::Numbers::each_number))]
+    pub fn numbers(&mut self, values: &[u64])
+        ensures put { self.new ≡ put_all self.old (numbers_of values.now) }
+    {
+        for value in values {
+            self.number(*value);
+        }
     }
-}
 
-// Writes what is taken.
-fn flush<W: Write>(out: &mut Buffer<W>, taken: usize)
-    ensures kept { out.new.bytes ≡ out.old.bytes }
-{
-    let bytes: &[u8] = &out.bytes;
-    let n = min(taken, bytes.len());
-    let _ = out.to.write_all(&bytes[0..n]);
+    // Puts each of the bytes as a number.
+    #[tactic(auto, using(crate::proofs::Numbers::each_number))]
+    pub fn bytes(&mut self, values: &[u8])
+        ensures put { self.new ≡ put_all self.old (numbers_of values.now) }
+    {
+        for value in values {
+            self.number(u64::from(*value));
+        }
+    }
+
+    // Says that the case has no answer.
+    pub fn none(&mut self)
+        ensures put { self.new ≡ put_all self.old none_text }
+    {
+        self.literal(b" none");
+    }
+
+    // Ends a line.
+    #[tactic(auto, unfolding(crate::specs::Line::put_all))]
+    pub fn end(&mut self)
+        ensures put { self.new ≡ put_all self.old line_feed }
+    {
+        self.put(b'\n');
+    }
+
+    // Says why the answers end before the input does, if they do, and writes what the buffer then has.
+    pub fn finish(&mut self, found: Found)
+        ensures put { self.new ≡ put_all self.old (closing found) }
+    {
+        self.close(found);
+        self.flush();
+    }
+
+    // Puts the line that ends the answers, if there is one.
+    #[tactic(auto, using(crate::proofs::Puts::put_nil))]
+    fn close(&mut self, found: Found)
+        ensures put { self.new ≡ put_all self.old (closing found) }
+    {
+        match found {
+            Found::Long => self.literal(b"long\n"),
+            Found::Short => self.literal(b"short\n"),
+            Found::Case | Found::End => {}
+        }
+    }
+
+    // Writes what is taken.
+    fn flush(&mut self)
+        ensures kept { self.new ≡ self.old }
+    {
+        let count = self.taken.min(SIZE);
+        let _ = self.to.write_all(&self.bytes[..count]);
+    }
 }
