@@ -11,7 +11,7 @@ const MIN_FARTHEST: u8 = 2;
 // Highest sensitivity accepted in a command.
 const MAX_SENSITIVITY: u8 = 100;
 
-// The gate that a `Command::SetSensitivity` addresses.
+// The gate that a `Command::SetSensitivity` addresses. An `Option` is no plainer: its `None` does not say "all".
 #[derive(Clone, Copy)]
 pub enum Gate {
     Index(u8),

@@ -27,6 +27,7 @@ pub fn put(out: &mut [u8], at: usize, bytes: &[u8]) -> Option<usize>
     ensures left { out.new ≡ put_in out.old at bytes.now }
 {
     let end = at.checked_add(bytes.len())?;
+    // Tests the length, since of `get_mut(at..end)?` it is not proved what the slice becomes.
     if out.len() < end {
         return None;
     }
