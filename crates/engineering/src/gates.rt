@@ -13,6 +13,7 @@ pub struct Gates {
 
 impl Gates {
     // Reads the counts of a block that fits (check R8): both are present and in range, and all energies present.
+    // Document 01 requires `let .. else` of the fields of a report.
     #[tactic(auto, unfolding(crate::specs::Gates::gates_fit, wire::specs::Number::number_at))]
     pub(crate) fn read(block: &[u8]) -> Option<Gates>
         ensures read { result ≡ gates_at block.now }

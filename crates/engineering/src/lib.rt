@@ -15,7 +15,7 @@ use wire::{GATES, GateValues, MAX_EXTRA, gate_array, gate_values, zero_padded};
 // The largest number that `extra_len` counts.
 const EXTRA_LEN_MAX: usize = 255;
 
-// Reserved bytes; the first `count` are valid.
+// Reserved bytes; the first `count` are valid. Document 01 asks for the array and its valid count.
 #[derive(Clone, Copy)]
 pub struct ExtraBytes {
     pub bytes: [u8; MAX_EXTRA],
@@ -42,16 +42,14 @@ impl Engineering {
     pub fn moving(self) -> GateValues
         ensures given { result ≡ gate_values self.moving_energy self.moving_gates }
     {
-        let energies = self.moving_energy;
-        gate_values(energies, self.moving_gates as usize)
+        gate_values(self.moving_energy, self.moving_gates as usize)
     }
 
     // Returns the valid stationary energies, gate 0 first.
     pub fn stationary(self) -> GateValues
         ensures given { result ≡ gate_values self.stationary_energy self.stationary_gates }
     {
-        let energies = self.stationary_energy;
-        gate_values(energies, self.stationary_gates as usize)
+        gate_values(self.stationary_energy, self.stationary_gates as usize)
     }
 
     // Returns the reserved bytes that were kept.

@@ -18,6 +18,7 @@ pub struct Basic {
 
 impl Basic {
     // Reads the nine basic bytes at the front of `body`.
+    // Document 01 requires `let .. else` of the fields of a report.
     #[tactic(auto, unfolding(wire::specs::Number::number_at))]
     pub(crate) fn read(body: &[u8]) -> Option<Basic>
         ensures read { result ≡ basic_at body.now }

@@ -13,7 +13,7 @@ pub const REPORT_HEAD: u8 = 0xAA;
 // The two bytes at the end of report data.
 pub const REPORT_TRAILER: [u8; 2] = [0x55, 0x00];
 
-// The type of report data, and their basic bytes.
+// The type of report data, a byte until R6 is checked, and their basic bytes.
 #[derive(Clone, Copy)]
 pub struct Layout {
     pub data_type: u8,
@@ -22,6 +22,7 @@ pub struct Layout {
 
 impl Layout {
     // Reads the data of a report frame, all between its length and its tail, by the checks R1 to R5 in this order.
+    // Document 01 requires `let .. else` of the fields of a report.
     #[tactic(auto, unfolding(crate::specs::LayoutCheck::checked_layout, wire::specs::Number::number_at))]
     pub(crate) fn checked(data: &[u8]) -> Result<Layout, Check>
         ensures checked { result ≡ checked_layout «data».now }

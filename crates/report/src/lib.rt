@@ -102,7 +102,6 @@ impl Report {
     }
 
     // Reads the data of a report frame. Refuses with 2 if R6 is the first check that fails, with 1 if another is.
-    #[tactic(auto, unfolding(crate::specs::Check::parsed_report))]
     pub fn parse(data: &[u8]) -> Result<Report, Error>
         ensures parsed { result ≡ parsed_report «data».now }
         ensures causes { Causes no_report report_checks «data».now (returned_report result) }
@@ -113,7 +112,7 @@ impl Report {
 }
 
 // Reads the data of a report frame, all between its length and its tail, by the checks R1 to R8 in this order.
-#[tactic(auto, unfolding(crate::specs::Check::checked_report, crate::specs::LayoutCheck::checked_layout))]
+#[tactic(auto, unfolding(crate::specs::LayoutCheck::checked_layout))]
 pub fn checked_report(data: &[u8]) -> Result<Report, Check>
     ensures checked { result ≡ checked_report «data».now }
 {
