@@ -2,7 +2,8 @@
 use mathlib.Core.Path.{◌≡◌, refl, sym, ap, ◌∙◌}
 use mathlib.Core.List.{List, ◌++◌}
 use mathlib.Core.Bool.{Bool, true, false, not, cond}
-use mathlib.Core.Option.{Option, none, some}
+use mathlib.Core.Option as Of
+use mathlib.Core.Option.{none, some}
 use Prim.Native.Nat.{ℕ, ◌≤◌, ◌<◌}
 use native.Mathlib.Omega.{arith}
 use lib.ListN.{length, take, drop, take-append-drop}
@@ -18,9 +19,9 @@ use Rattle.framing.specs.Tally.{sum, passed}
 use Rattle.framing.proofs.Scanner as Scanner
 use Rattle.framing.proofs.View.{Does, does_end, does_open, does_stray, does_break, does}
 use Rattle.engine.proofs.Lawful.{answer_at}
-use Rattle.stream.specs.Deliver.{holds, decodes, delivered, Counter, frames, resyncs, dropped, malformed}
+use Rattle.stream.specs.Deliver.{decodes, delivered, Counter, frames, resyncs, dropped, malformed}
 use Rattle.stream.proofs.Decoding.{decoding}
-use Rattle.stream.proofs.Delivered.{decodes_framed, delivered_framed, decoded_failed}
+use Rattle.stream.proofs.Delivered.{decodes_framed, delivered_framed}
 use Rattle.scan.specs.Start.{counted}
 use Rattle.feed.specs.Moved.{emitted}
 use Rattle.parser.specs.Feed.{put}
@@ -28,15 +29,17 @@ use Rattle.parser.specs.Engine.{with_payload, counter_in}
 use Rattle.scan.specs.declared.Scan.{Scan}
 use Rattle.scan.specs.declared.stats.Stats.{Stats}
 use Rattle.scan.specs.declared.stats.Ended.{Ended}
-use Rattle.scan.specs.declared.stats.Ended.TheVariants.{Frame, Nothing}
+use Rattle.std.specs.Prelude.{Some, None, is_ok}
+use Rattle.std.specs.Result.{result_ok}
+use Rattle.std.specs.declared.option.Option.{Option}
 use Rattle.step.proofs.Follow.{Capped, ended_as, Fits}
 
 -- What a count gains by the frame that a byte ended, if any. No other piece that the byte closed is a whole frame.
-abbrev pub ended_count : (List ℕ → ℕ) → Option (List ℕ) → ℕ
+abbrev pub ended_count : (List ℕ → ℕ) → Of.Option (List ℕ) → ℕ
 ended_count count (some f) = count f
 ended_count count none = 0
 
-pub ended_nil : (o : Option (List ℕ)) → ended_count (λ f. 0) o ≡ 0
+pub ended_nil : (o : Of.Option (List ℕ)) → ended_count (λ f. 0) o ≡ 0
 ended_nil (some f) = refl
 ended_nil none = refl
 
@@ -58,9 +61,9 @@ framed_here : (k : Kind) (n : ℕ) (buf : List ℕ) → n ≤ length buf
 unfolding framed
 framed_here k n buf l = rw (length-take-le n buf l)
 
-pub emitted_scan : (e : Ended) (c : Scan) (st : Stats) (buf : List ℕ) → (emitted e c st buf).scan ≡ c
-emitted_scan (Frame k n) c st buf = refl
-emitted_scan Nothing c st buf = refl
+pub emitted_scan : (e : Option Ended) (c : Scan) (st : Stats) (buf : List ℕ) → (emitted e c st buf).scan ≡ c
+emitted_scan (Some e) c st buf = refl
+emitted_scan None c st buf = refl
 
 -- What a whole frame adds to a counter, by whether it decodes.
 abbrev pub added_by : Counter → Bool → ℕ
@@ -97,25 +100,24 @@ module _ (limit : ℕ) (small : limit < 65536) (buf : List ℕ) (room : limit �
     data_small = omega (arith, length-take-le n buf (omega arith))
 
     decodes_here : decodes (header k ++ (le_bytes 2 n ++ (take n buf ++ tail k)))
-        ≡ holds (decoded 4 k (take n buf)).failed
-    decodes_here = rw (framed_here k n buf (omega arith), decoded_failed 4 k (take n buf))
-        (decodes_framed k (take n buf) data_small)
+        ≡ is_ok (decoded 4 k (take n buf))
+    decodes_here = rw (framed_here k n buf (omega arith)) (decodes_framed k (take n buf) data_small)
 
-    delivered_here : with_payload (decoded 4 k (take n buf)).frame (put buf c st)
+    delivered_here : with_payload (result_ok (decoded 4 k (take n buf))) (put buf c st)
         ≡ delivered (header k ++ (le_bytes 2 n ++ (take n buf ++ tail k)))
     delivered_here =
         rw (framed_here k n buf (omega arith))
         (sym (delivered_framed (take n buf) (drop n buf) k data_small
-        ∙ ap (λ s. with_payload (decoded 4 k (take n buf)).frame (put s c st)) (take-append-drop n buf)))
+        ∙ ap (λ s. with_payload (result_ok (decoded 4 k (take n buf))) (put s c st)) (take-append-drop n buf)))
 
-  pub emitted_answer : (e : Ended) → Fits limit e
+  pub emitted_answer : (e : Option Ended) → Fits limit e
       → with_payload (emitted e c st buf).answer (put buf c st) ≡ answer_at decoding (ended_as e buf)
-  emitted_answer (Frame k n) fits = delivered_here k n fits
-  emitted_answer Nothing fits = refl
+  emitted_answer (Some e) fits = delivered_here e.kind e.len fits
+  emitted_answer None fits = refl
 
-  pub emitted_counter : (e : Ended) → Fits limit e → (k : Counter)
+  pub emitted_counter : (e : Option Ended) → Fits limit e → (k : Counter)
       → counter_in k (emitted e c st buf).stats
       ≡ bumped (counter_in k st) (ended_count (λ f. added_by k (decodes f)) (ended_as e buf))
-  emitted_counter (Frame kind n) fits k =
-      rw (decodes_here kind n fits) (counted_by_lem st cap (holds (decoded 4 kind (take n buf)).failed) k)
-  emitted_counter Nothing fits k = none_more st cap k
+  emitted_counter (Some e) fits k =
+      rw (decodes_here e.kind e.len fits) (counted_by_lem st cap (is_ok (decoded 4 e.kind (take e.len buf))) k)
+  emitted_counter None fits k = none_more st cap k

@@ -17,7 +17,8 @@ use Rattle.scan.specs.declared.Scan.{Scan}
 use Rattle.scan.specs.declared.stats.Stats.{Stats}
 use Rattle.parser.specs.declared.Parser.{Parser}
 use Rattle.scan.specs.declared.stats.Ended.{Ended}
-use Rattle.scan.specs.declared.stats.Ended.TheVariants.{Frame, Nothing}
+use Rattle.std.specs.Prelude.{Some, None}
+use Rattle.std.specs.declared.option.Option.{Option}
 use Rattle.step.proofs.Follow.{ended_as}
 use Rattle.scan.proofs.Orders.{or_reset_formed, or_reset_same}
 use Rattle.parser.proofs.Feeding.{Valid, stepped, left, follows_byte, stepped_valid}
@@ -44,12 +45,12 @@ or_reset_twice limit c = or_reset_same limit (or_reset limit c) (or_reset_formed
 
 module _ (limit : ℕ) (small : limit < 65536) where
   -- A step, and the bytes after it, which count only if the step ended no frame.
-  stop_as : (e : Ended) (left : List ℕ) (c : Scan) (st : Stats) (others : Run) (rest : Sliced Parser Answer)
-      → (e ≡ Nothing → slice_as others ≡ rest)
+  stop_as : (e : Option Ended) (left : List ℕ) (c : Scan) (st : Stats) (others : Run) (rest : Sliced Parser Answer)
+      → (e ≡ None → slice_as others ≡ rest)
       → slice_as (then_run e (record { scan = c; stats = st; ended = e }) left others)
       ≡ stop_if (ended_as e left) (slice_as (run_at c st e 1 left)) (more rest)
-  stop_as (Frame k n) left c st others rest h = refl
-  stop_as Nothing left c st others rest h = ap more (h refl)
+  stop_as (Some x) left c st others rest h = refl
+  stop_as None left c st others rest h = ap more (h refl)
 
   pub until : (bs : List ℕ) → Bytes bs → (p : Parser) → Valid limit p
       → slice_as (run_of limit (or_reset limit p.scan) p.stats p.buf bs)

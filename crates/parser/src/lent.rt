@@ -11,6 +11,7 @@ use scan::{Stats, hunting};
 
 impl Parser {
     // Feeds one byte by the engine `E`.
+    #[tactic(auto, unfolding(crate::specs::Feed::feed_of))]
     pub(crate) fn feed_with<E: Engine>(&mut self, byte: u8) -> Option<Frame>
         ensures fed { (result ≡ (feed_of link_limit self.old byte).answer)
             × (self.new ≡ (feed_of link_limit self.old byte).parser) }
@@ -30,6 +31,7 @@ impl Parser {
     }
 
     // Feeds a slice by the engine `E`.
+    #[tactic(auto, unfolding(crate::specs::Feed::feed_slice_of))]
     pub(crate) fn feed_slice_with<E: Engine>(&mut self, bytes: &[u8]) -> Taken
         ensures fed { (result ≡ (feed_slice_of link_limit self.old bytes.now).answer)
             × (self.new ≡ (feed_slice_of link_limit self.old bytes.now).parser) }

@@ -71,6 +71,7 @@ impl Parser {
     }
 
     // Returns the length of the frame in progress.
+    #[tactic(auto, unfolding(crate::specs::Feed::unfinished_of))]
     pub fn unfinished(self) -> usize
         ensures told { result ≡ unfinished_of link_limit self }
     {
