@@ -40,16 +40,14 @@ pub called_send : (s : Session) (c : Command) (out : List ℕ)
 called_send s c out = called s (send c out)
 
 pub called_receive : (s : Session) (f : Option Frame) (r : Received) → r ≡ receive_of s f
-    → record { told : r ≡ receive_of s f; called : Called s (frame f) r.session (received r.answer) }
-called_receive s f r p = record { told = p; called = rw p (called s (frame f)) }
+    → Called s (frame f) r.session (received r.answer)
+called_receive s f r p = rw p (called s (frame f))
 
-pub called_give_up : (s t : Session) → t ≡ give_up_of s
-    → record { told : t ≡ give_up_of s; called : Called s give_up t gave_up }
-called_give_up s t p = record { told = p; called = rw p (called s give_up) }
+pub called_give_up : (s t : Session) → t ≡ give_up_of s → Called s give_up t gave_up
+called_give_up s t p = rw p (called s give_up)
 
-pub called_ask : (s : Session) (w : Option ℕ) → w ≡ awaited_word s
-    → record { told : w ≡ awaited_word s; called : Called s ask s (awaiting w) }
-called_ask s w p = record { told = p; called = rw p (called s ask) }
+pub called_ask : (s : Session) (w : Option ℕ) → w ≡ awaited_word s → Called s ask s (awaiting w)
+called_ask s w p = rw p (called s ask)
 
 refused_number : (s : Session) (c : Command) (n : ℕ) (q : Returned ℕ) → Refuses s c n q → q.number ≢ 0
 refused_number s c n q (busy _ _ _ w a) z = omega arith

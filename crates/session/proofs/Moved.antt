@@ -148,7 +148,7 @@ frame_moves s (Some (Is.Ack a)) = go (is_word (awaited_word s) a.word) refl
         record { to = x.to; answer = _; moves = ends s x.to a h x.ended }
     go false q =
         passing s _ (λ d e h. let same_ack : a ≡ d = cc in
-          false≢true (sym q ∙ rw same_ack (awaited_passes s d.word h)))
+        false≢true (sym q ∙ rw same_ack (awaited_passes s d.word h)))
 
 -- A wait is on, or none is.
 data Wait (s : Session) : Type 0 where

@@ -14,16 +14,16 @@ use Rattle.session.proofs.Caused.{send_causes, called_send}
 use Rattle.session.proofs.Farthest.{farthest_sent}
 
 -- Its answer, its buffer, the causes, that it is a move, and the farthest gates.
-pub sends : (s : Session) (c : Command) (out left : List ℕ) (r : Sent) → r ≡ send_of s c (length out)
-    → left ≡ buffer_of s c out
+pub sends : (s : Session) (c : Command) (out buf : List ℕ) (r : Sent) → r ≡ send_of s c (length out)
+    → buf ≡ buffer_of s c out
     → record {
       told : r ≡ send_of s c (length out);
-      left : left ≡ buffer_of s c out;
+      left : buf ≡ buffer_of s c out;
       causes : SendCauses s c (length out) r.answer;
-      called : Called s (send c out) r.session (sent (returned_send r.answer) left);
+      called : Called s (send c out) r.session (sent (returned_send r.answer) buf);
       farthest : FarthestSent s c r.answer;
     }
-sends s c out left r p q =
+sends s c out buf r p q =
     let causes : SendCauses s c (length out) r.answer = rw p (send_causes s c out) in
     record {
       told = p;

@@ -129,6 +129,7 @@ impl Session {
     }
 
     // Gives up a wait, which closes the session; without a wait nothing changes.
+    #[tactic(auto, unfolding(crate::specs::Session::give_up_of))]
     pub fn give_up(self) -> Self
         ensures told { result ≡ give_up_of self }
         ensures called { Called self give_up result gave_up }

@@ -13,6 +13,7 @@ use wire::word;
 impl Session {
     // Hands over what the parser answers: the acknowledgement of the awaited word ends the wait, and any other frame
     // passes through, as no frame does.
+    #[tactic(auto, unfolding(crate::specs::Session::receive_of))]
     pub fn receive(self, frame: Option<Frame>) -> Received
         ensures told { result ≡ receive_of self frame }
         ensures called { Called self (Machine.frame frame) result.session (received result.answer) }

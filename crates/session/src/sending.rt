@@ -14,6 +14,7 @@ impl Session {
     // Sends a command: encodes it into the front of `out`, and returns the number of bytes written. Refuses with 8
     // while a word is awaited, then with 7 a command other than `EnableConfig` in a closed session, then as the encoder
     // does. A refused command changes neither the session nor the buffer.
+    #[tactic(auto, unfolding(crate::specs::Session::send_of))]
     pub fn send(self, command: Command, out: &mut [u8]) -> Sent
         ensures told { result ≡ send_of self command (length out.old) }
         ensures left { out.new ≡ buffer_of self command out.old }
@@ -31,6 +32,7 @@ impl Session {
     }
 
     // Makes the session's tests, and encodes the command if it may be sent.
+    #[tactic(auto, unfolding(crate::specs::Session::answer_of, crate::specs::Session::buffer_of))]
     fn encode(self, command: Command, out: &mut [u8]) -> Result<usize, SessionError>
         ensures told { result ≡ answer_of self command (length out.old) }
         ensures left { out.new ≡ buffer_of self command out.old }
