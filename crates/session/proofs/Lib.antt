@@ -10,5 +10,5 @@ pub mod Caused
 pub mod Farthest
 -- `EnableConfig` opens a session and `EndConfig` closes it.
 pub mod Exchanges
--- What `send` answers and leaves.
+-- What `send` has to show, from its answer and its buffer.
 pub mod SendTests
