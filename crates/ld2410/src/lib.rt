@@ -4,45 +4,40 @@
 #![tactic(auto)]
 
 // Sizes and command words.
-pub use wire::{ACK_BIT, GATES, Kind, MAX_DATA, MAX_EXTRA, MAX_FRAME, MaybeKind, word};
+pub use wire::{ACK_BIT, GATES, Kind, MAX_DATA, MAX_EXTRA, MAX_FRAME, word};
 
 // Refusals.
-pub use refusal::{Error, Outcome};
+pub use refusal::Error;
 
 // Reports.
 pub use engineering::{Engineering, ExtraBytes};
-pub use report::{MaybeTarget, Report, ReportResult, Target};
+pub use report::{Report, Target};
 pub use target_state::TargetState;
-pub use wire::{GateValues, MaybeU8};
+pub use wire::GateValues;
 
 // Acknowledgements, and what they carry.
-pub use ack::{Ack, AckResult, Span, SpanResult};
-pub use reply::{
-    EnableConfig, EnableConfigResult, FirmwareVersion, FirmwareVersionResult, Mac, MacResult,
-    Parameters, ParametersResult,
-};
+pub use ack::{Ack, Span};
+pub use reply::{EnableConfig, FirmwareVersion, Mac, Parameters};
 
 // Whole frames, and the stream. `feed_at` and `feed_slice_at`, and those of the table engine, take a parser in its
 // parts, with the buffer lent: a loop over them copies no buffer.
 pub use feed::{
     Moved, MovedSlice, Taken, feed_at, feed_slice_at, table_feed_at, table_feed_slice_at,
 };
-pub use frame::{Frame, FrameKind, FrameResult};
+pub use frame::Frame;
 pub use parser::{Fed, FedSlice, Parser};
 pub use scan::{Scan, State, Stats};
 
 // Commands.
-pub use command::{Baud, Command, Gate, MaybeBaud};
-pub use command_reader::{CommandResult, read_command};
+pub use command::{Baud, Command, Gate};
+pub use command_reader::read_command;
 
 // The conversation.
-pub use session::{ReceiveResult, Received, SendResult, Sent, Session, SessionError};
-pub use wire::MaybeU16;
+pub use session::{ReceiveResult, Received, Sent, Session, SessionError};
 
 // The added writers.
 pub use ack_writer::write_ack;
 pub use report_writer::write_report;
-pub use writer::WriteResult;
 
 // The load of a seed, for tests.
-pub use load_writer::{LoadError, LoadResult, MAX_LOAD, write_load};
+pub use load_writer::{LoadError, MAX_LOAD, write_load};
