@@ -12,7 +12,7 @@ use Rattle.refusal.specs.Check.{Checks, or_failed, first_failed, Passes, FailsFi
 use Rattle.refusal.specs.Check.{Causes}
 use Rattle.refusal.specs.declared.Check.{Check}
 use Rattle.refusal.specs.declared.Check.TheVariants.{F1, F2, F3, F4, R1, R2, R3, R4, R5, R6, R7, R8, A1, A2}
-use Rattle.std.specs.Prelude.{Some, None, Ok, Err}
+use Rattle.std.specs.Prelude.{Some, None, Err}
 use Rattle.std.specs.declared.option.Option.{Option}
 use Rattle.std.specs.declared.result.Result.{Result}
 
@@ -103,14 +103,10 @@ given A2 = inl refl
 other_than_R6 : (c : Check) → error_of c ≡ InvalidFormat → c ≢ R6
 other_than_R6 c e q = let z : ◌≡◌ {A = ℕ} 0 1 = cc (ap error_of q) in absurd (omega arith)
 
--- What an answer by an error says: the error that it gives, or that there is none, and the value.
+-- The error that an answer by an error gives.
 pub error_told : {A E : Type 0} (o : Option E) (v : A) {c : E} → or_error o v ≡ Err c → o ≡ Some c
 error_told (Some d) v {c} e = let q : d ≡ c = cc in rw q
 error_told None v e = let z : ◌≡◌ {A = ℕ} 0 1 = cc in absurd (omega arith)
-
-pub value_told : {A E : Type 0} (o : Option E) (v : A) {w : A} → or_error o v ≡ Ok w → (o ≡ None) × (w ≡ v)
-value_told (Some d) v e = let z : ◌≡◌ {A = ℕ} 0 1 = cc in absurd (omega arith)
-value_told None v e = (refl, cc)
 
 -- The causes, by the first failed check.
 module _ (cs : Checks) (s : List ℕ) where
