@@ -59,6 +59,9 @@ impl Ack {
         Ok(self.payload)
     }
 
+    // The four replies keep a call each, of two lines: a trait with the word, the reader and the reply's definition as
+    // members would take as many lines as it spares.
+
     // Reads the reply to `ENABLE_CONFIG` from the bytes that hold the payload. Refuses as `expect` does, then with 1 a
     // short payload.
     pub fn enable_config(self, bytes: &[u8]) -> Result<EnableConfig, Error>

@@ -38,16 +38,14 @@ impl Parameters {
     pub fn moving(self) -> GateValues
         ensures given { result ≡ gate_values self.moving_sensitivity (valid_gates self) }
     {
-        let sensitivities = self.moving_sensitivity;
-        gate_values(sensitivities, self.gates())
+        gate_values(self.moving_sensitivity, self.gates())
     }
 
     // Returns the valid stationary sensitivities, gate 0 first.
     pub fn stationary(self) -> GateValues
         ensures given { result ≡ gate_values self.stationary_sensitivity (valid_gates self) }
     {
-        let sensitivities = self.stationary_sensitivity;
-        gate_values(sensitivities, self.gates())
+        gate_values(self.stationary_sensitivity, self.gates())
     }
 }
 
