@@ -5,16 +5,16 @@ use mathlib.Core.Path.{◌≡◌, refl}
 use mathlib.Core.List.{List}
 use mathlib.Core.Bool.{true≢false}
 use Prim.Native.Nat.{ℕ}
+use Rattle.std.specs.Prelude.{is_some}
 use Rattle.framing.specs.Piece.{unfinished}
 use Rattle.framing.proofs.Counting.{Counting}
 use Rattle.engine.proofs.Lawful.{Decoding}
-use Rattle.ld2450_parser.specs.Stream.{nothing, delivered, decodes, Counter, frames, resyncs, dropped, adds}
-use Rattle.ld2450_parser.specs.declared.MaybeTargets.{MaybeTargets}
+use Rattle.ld2450_parser.specs.Stream.{Answer, nothing, delivered, decodes, Counter, frames, resyncs, dropped, adds}
 
-abbrev pub decoding : Decoding MaybeTargets
+abbrev pub decoding : Decoding Answer
 decoding = record {
   none = nothing;
-  delivers = λ a. a.there;
+  delivers = is_some;
   decodes = decodes;
   answer_of = delivered;
   none_delivers = refl;

@@ -11,10 +11,10 @@ use Rattle.engine.proofs.Still.{same_until}
 use Rattle.engine.proofs.Until.{until_invariant}
 use Rattle.ld2450.specs.Frame.{framed}
 use Rattle.ld2450.proofs.Frames.{framed_length}
+use Rattle.ld2450_parser.specs.Stream.{Answer}
 use Rattle.ld2450_parser.specs.Feed.{or_reset, still, feed_of, feed_slice_of, reset_of, unfinished_of}
 use Rattle.ld2450_parser.specs.Engine.{counter_in, pending_by, engine}
 use Rattle.ld2450_parser.specs.declared.Parser.{Parser}
-use Rattle.ld2450_parser.specs.declared.MaybeTargets.{MaybeTargets}
 use Rattle.ld2450_parser.proofs.Frames.{link, waits}
 use Rattle.ld2450_parser.proofs.Decoding.{decoding, counting}
 use Rattle.ld2450_parser.proofs.Ranges.{or_reset_same, or_reset_range, or_reset_twice}
@@ -40,7 +40,7 @@ slice_still : (p : Parser) (bs : List ℕ) → Valid p → Bytes bs
 unfolding feed_slice_of
 slice_still p bs v h = until bs h (still p) (still_valid p v) (or_reset_range p.at)
 
-same : {X : Type 0} (get : Sliced Parser MaybeTargets → X) (p : Parser) → Valid p
+same : {X : Type 0} (get : Sliced Parser Answer → X) (p : Parser) → Valid p
     → get (feed_until link decoding engine (still p) []) ≡ get (feed_until link decoding engine p [])
     → (bs : List ℕ) → Bytes bs → get (engine.slice p bs) ≡ get (feed_until link decoding engine p bs)
 same get p v e bs h = same_until link decoding engine Valid still still_feed still_pending slice_still get p v
@@ -53,7 +53,7 @@ lawful = record {
   feed_pending = λ p b v h. fed_pending p b v;
   feed_answer = λ p b v h. fed_answer p b v;
   feed_counter = λ p b v h k. fed_counter p b v k;
-  slice_valid = λ p bs v h. subst (λ (s : Sliced Parser MaybeTargets). Valid s.state) (sym (slice_still p bs v h))
+  slice_valid = λ p bs v h. subst (λ (s : Sliced Parser Answer). Valid s.state) (sym (slice_still p bs v h))
       (until_invariant link decoding engine Valid (λ q b w g. fed_valid q b w) (still p) bs (still_valid p v) h);
   slice_pending = λ p bs v h. same (λ s. pending_by s.state) p v (still_pending p) bs h;
   slice_told = λ p bs v h. same (λ s. s.told) p v refl bs h;

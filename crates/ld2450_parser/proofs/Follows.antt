@@ -11,6 +11,7 @@ use lib.Dec.{eqb}
 use lib.ListN.{length, take}
 use lib.Seq.{take_at, length-take-le}
 use borrow.Author.Tests.{eqb-true, eqb-false, ne_eqb}
+use Rattle.std.specs.Prelude.{Some}
 use Rattle.wire.specs.Counter.{counter_max, bumped}
 use Rattle.wire.proofs.Counters.{capped_append}
 use Rattle.framing.specs.Piece.{broken}
@@ -22,10 +23,9 @@ use Rattle.ld2450.specs.Target.{three_of}
 use Rattle.ld2450.specs.Frame.{tail, framed}
 use Rattle.ld2450.proofs.Frames.{framed_length}
 use Rattle.ld2450_parser.specs.Stream.{Open, Counter, frames, resyncs, dropped, adds}
-use Rattle.ld2450_parser.specs.Feed.{continued, ended, abandoned, one_dropped, started, step_of, stored, answer_if}
+use Rattle.ld2450_parser.specs.Feed.{Stepped, continued, ended, abandoned, one_dropped, started, step_of, stored, answer_if}
 use Rattle.ld2450_parser.specs.Engine.{counter_in}
 use Rattle.ld2450_parser.specs.declared.Stats.{Stats}
-use Rattle.ld2450_parser.specs.declared.steps.Stepped.{Stepped}
 use Rattle.ld2450_parser.proofs.Frames.{link, is_frame_lem, waits, first_not_open}
 use Rattle.ld2450_parser.proofs.Decoding.{decoding, counting}
 use Rattle.ld2450_parser.proofs.Places.{Turn, goes_on, goes_last, goes_off, turn, stored_length}
@@ -56,7 +56,7 @@ module _ (st : Stats) (cap : Capped st) (d : List ℕ) where
   last_follows l = record {
     is_in_range = omega arith;
     pending = refl;
-    answer = ap (λ (h : List ℕ). record { there = true; targets = three_of h }) (sym (take_at d tail 24 l));
+    answer = ap (λ (h : List ℕ). Some (three_of h)) (sym (take_at d tail 24 l));
     counter = counted;
   }
     where

@@ -17,7 +17,7 @@ use Rattle.ld2450_parser.proofs.Places.{framed_due, not_open}
 
 pub delivers_whole : DeliversWhole
 unfolding DeliversWhole
-delivers_whole f w = rw (parsed_frame_lem f (frame_complete f w)) (refl, refl)
+delivers_whole f w = (_, parsed_frame_lem f (frame_complete f w), refl)
 
 pub stray_bytes : StrayBytes
 unfolding StrayBytes

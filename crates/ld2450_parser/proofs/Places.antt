@@ -3,18 +3,18 @@
 use mathlib.Core.Path.{◌≡◌, refl, sym, ap, ◌∙◌}
 use mathlib.Core.Logic.{◌⊎◌, inl, inr, ⊎_elim}
 use mathlib.Core.List.{List, [], ◌∷◌, ◌++◌, append_assoc}
-use mathlib.Core.Bool.{Bool, true, false, cond}
+use mathlib.Core.Bool.{Bool, true, false}
 use Prim.Native.Nat.{ℕ, suc, ◌+◌, ◌-◌, ◌≤◌, ◌<◌}
 use native.Mathlib.Decide.{dec_le}
 use native.Mathlib.Omega.{arith}
 use lib.Dec.{eqb}
-use lib.ListN.{length, get_or, take, set, replicate, length-set, get_or-append}
+use lib.ListN.{length, get_or, take, set, length-set, get_or-append}
 use lib.Seq.{take-suc, take_all, take-suc-set, set-append_left, get_or-append-add, get_or_at, length-take-le}
 use borrow.Author.Tests.{lt-ltb, le-ltb, eq-eqb, eqb-true, eqb-false}
 use Rattle.ld2450.specs.Frame.{header, tail, framed}
 use Rattle.ld2450.proofs.Frames.{framed_length}
 use Rattle.ld2450_parser.specs.Stream.{Open}
-use Rattle.ld2450_parser.specs.Feed.{among, due_at, continued, ended, abandoned, one_dropped, started}
+use Rattle.ld2450_parser.specs.Feed.{among, due_at, continued, ended, abandoned, started}
 use Rattle.ld2450_parser.specs.Feed.{where_due, step_of, stored}
 use Rattle.ld2450_parser.specs.declared.Stats.{Stats}
 
@@ -123,20 +123,3 @@ module _ (n : ℕ) (u : n ≤ 29) (st : Stats) (d : List ℕ) (l : length d ≡ 
 
   pub turn : Turn
   turn = ⊎_elim turn_inside (λ o. turn_by o (eqb b (due_at n)) refl) (inside? n)
-
--- So the place stays in range after a byte.
-started_range : (st : Stats) (b : ℕ) → (started st b).at ≤ 29
-unfolding started
-started_range st b = go (eqb b 0xAA)
-  where
-    go : (x : Bool) → (cond x (continued 1 st) (continued 0 (one_dropped st))).at ≤ 29
-    go true = omega arith
-    go false = omega arith
-
-pub step_range : (n : ℕ) (st : Stats) (b : ℕ) → n ≤ 29 → (step_of n st b).at ≤ 29
-step_range n st b u = go (turn n u st (replicate 24 0) refl b)
-  where
-    go : Turn n u st (replicate 24 0) refl b → (step_of n st b).at ≤ 29
-    go (goes_on h e q) = rw e (omega arith)
-    go (goes_last e q) = rw e (omega arith)
-    go (goes_off e s q) = rw e (started_range (abandoned st n) b)

@@ -1,11 +1,11 @@
 -- From demand 3 alone: of whole frames back to back each is delivered, once, in order, and no byte is lost.
 use mathlib.Core.Path.{◌≡◌, refl, sym, ap, ◌∙◌}
 use mathlib.Core.List.{List, [], ◌∷◌, map, map-append}
-use mathlib.Core.Bool.{true}
 use Prim.Native.Nat.{ℕ}
 use native.Mathlib.Omega.{arith}
 use lib.ListN.{length, length-append}
 use lib.Seq.{take_at}
+use Rattle.std.specs.Prelude.{Some}
 use Rattle.wire.specs.Bytes.{Every}
 use Rattle.framing.specs.Piece.{Piece, whole}
 use Rattle.framing.specs.Division.{Division, is_empty, is_whole, Divided}
@@ -13,10 +13,9 @@ use Rattle.framing.specs.Tally.{sum}
 use Rattle.engine.specs.Fulfilled.{answers, join_over, sum_over}
 use Rattle.ld2450.specs.Target.{three_of}
 use Rattle.ld2450.specs.Frame.{tail, framed}
-use Rattle.ld2450_parser.specs.Stream.{Open, Whole, delivered, decodes, adds, Counter, frames, resyncs, dropped}
+use Rattle.ld2450_parser.specs.Stream.{Answer, Open, Whole, delivered, decodes, adds, Counter, frames, resyncs, dropped}
 use Rattle.ld2450_parser.specs.Claims.{Demand3, back_to_back, all_of, Receives}
 use Rattle.ld2450_parser.specs.declared.Parser.{Parser}
-use Rattle.ld2450_parser.specs.declared.MaybeTargets.{MaybeTargets}
 use Rattle.ld2450_parser.proofs.Frames.{is_frame_lem}
 use Rattle.ld2450_parser.proofs.OneByte.{Valid}
 
@@ -26,8 +25,8 @@ Held d = length d ≡ 24
 abbrev wholes : List (List ℕ) → List Piece
 wholes ds = map (λ (d : List ℕ). whole (framed d)) ds
 
-abbrev targets_in : List ℕ → MaybeTargets
-targets_in d = record { there = true; targets = three_of d }
+abbrev targets_in : List ℕ → Answer
+targets_in d = Some (three_of d)
 
 -- Frames back to back are divided into these frames, each delivered and counted; no byte is dropped.
 wholes_divide : (ds : List (List ℕ)) → Every Held ds → Division Open Whole (back_to_back ds) (wholes ds)

@@ -7,22 +7,23 @@ use Rattle.wire.specs.Bytes.{Bytes}
 use Rattle.framing.proofs.Scanner as Scanner
 use Rattle.engine.specs.Engine.{Sliced}
 use Rattle.engine.proofs.Lawful.{answer_at, stop_if, feed_until}
+use Rattle.ld2450_parser.specs.Stream.{Answer}
 use Rattle.ld2450_parser.specs.Feed.{stepped, then_run, run_of, feed_of}
 use Rattle.ld2450_parser.specs.Engine.{pending_by, engine}
 use Rattle.ld2450_parser.specs.declared.Parser.{Parser}
-use Rattle.ld2450_parser.specs.declared.MaybeTargets.{MaybeTargets}
-use Rattle.ld2450_parser.specs.declared.FedSlice.{FedSlice}
+use Rattle.ld2450_parser.specs.declared.Fed.{Fed}
+use Rattle.ld2450_parser.specs.declared.Taken.{Taken}
 use Rattle.ld2450_parser.proofs.Frames.{link}
 use Rattle.ld2450_parser.proofs.Decoding.{decoding}
 use Rattle.ld2450_parser.proofs.Ranges.{or_reset_same}
 use Rattle.ld2450_parser.proofs.OneByte.{Valid, fed_range, fed_answer, fed_valid}
 
 -- What a slice call gives back, as the crate `engine` has it.
-abbrev pub slice_as : FedSlice → Sliced Parser MaybeTargets
+abbrev pub slice_as : Fed Taken → Sliced Parser Answer
 slice_as r = record { state = r.parser; told = r.answer.count; answer = r.answer.frame }
 
 -- Every whole frame decodes, so a run stops where it delivers.
-stop_as : (o : Option (List ℕ)) (p : Parser) (a : MaybeTargets) (rest : FedSlice) → a ≡ answer_at decoding o
+stop_as : (o : Option (List ℕ)) (p : Parser) (a : Answer) (rest : Fed Taken) → a ≡ answer_at decoding o
     → slice_as (then_run (record { parser = p; answer = a }) rest)
     ≡ stop_if o (record { state = p; told = 1; answer = a })
     (record { state = rest.parser; told = suc rest.answer.count; answer = rest.answer.frame })

@@ -15,7 +15,7 @@
 --   ResetFirst x y   if x is out of range, it is fed as y is; the resets promise it of y, which they leave
 -- Defined elsewhere: Fulfilled in the crate `engine`; open, whole, delivered and counted in Stream; a frame in the
 -- crate `ld2450` (Frame); where counters stop in `wire` (Counter).
-use Rattle.std.specs.Prelude.{◌≡◌, List, [], ◌∷◌, ◌++◌, map, true, ℕ, ◌+◌, ◌<◌, min, length, take}
+use Rattle.std.specs.Prelude.{◌≡◌, List, [], ◌∷◌, ◌++◌, map, ℕ, ◌+◌, ◌<◌, min, length, take, Some}
 use Rattle.wire.specs.Counter.{counter_max}
 use Rattle.wire.specs.Bytes.{Every}
 use Rattle.framing.specs.Piece.{Piece}
@@ -26,13 +26,12 @@ use Rattle.engine.specs.Engine.{Engine, history, final}
 use Rattle.engine.specs.Fulfilled.{deliveries, Fulfilled, Same}
 use Rattle.ld2450.specs.Target.{three_of}
 use Rattle.ld2450.specs.Frame.{framed}
-use Rattle.ld2450_parser.specs.Stream.{Open, Whole, nothing, Counter, ld2450}
+use Rattle.ld2450_parser.specs.Stream.{Answer, Open, Whole, nothing, Counter, ld2450}
 use Rattle.ld2450_parser.specs.Feed.{feed_of, feed_slice_of, unfinished_of}
 use Rattle.ld2450_parser.specs.Engine.{counter_in, pending_by, engine}
 use Rattle.ld2450_parser.specs.declared.Parser.{Parser}
-use Rattle.ld2450_parser.specs.declared.MaybeTargets.{MaybeTargets}
 
-abbrev pub did : Parser → List Call → List (Did MaybeTargets)
+abbrev pub did : Parser → List Call → List (Did Answer)
 did x calls = history engine x calls
 
 abbrev pub left : Parser → List Call → Parser
@@ -45,7 +44,7 @@ abbrev pub FromHere : Parser → Type 0
 FromHere x = Demand3 [] x
 
 abbrev pub Determined : List ℕ → Parser → Type 0
-Determined p x = (E : Engine Parser MaybeTargets Counter) (s : Parser) (calls : List Call)
+Determined p x = (E : Engine Parser Answer Counter) (s : Parser) (calls : List Call)
     → Every ByteCall calls → Fulfilled ld2450 E p s calls → E.max ≡ counter_max
     → ((k : Counter) → E.counter k s ≡ counter_in k x.stats) → Same E engine s x calls
 
@@ -60,7 +59,7 @@ all_of (ds ∷ dss) = ds ++ all_of dss
 pub record AllDelivered (x : Parser) (calls : List Call) (ds : List (List ℕ)) : Type 0 where
   -- each once, in order, and nothing else
   pub each : deliveries ld2450.delivers (did x calls)
-      ≡ map (λ (d : List ℕ). record { there = true; targets = three_of d }) ds
+      ≡ map (λ (d : List ℕ). Some (three_of d)) ds
   pub frames : (left x calls).stats.frames ≡ min (x.stats.frames + length ds) counter_max
   pub resyncs : (left x calls).stats.resyncs ≡ x.stats.resyncs
   pub dropped : (left x calls).stats.dropped ≡ x.stats.dropped
@@ -89,8 +88,8 @@ pub record FromAny (x : Parser) : Type 0 where
   pub frames : (calls : List Call) → Every ByteCall calls → (left x calls).stats.frames
       ≡ min (x.stats.frames + length (deliveries ld2450.delivers (did x calls))) counter_max
   -- "an empty slice takes none", and delivers nothing
-  pub empty : (calls : List Call) → Every ByteCall calls → (before after : List (Did MaybeTargets)) (k : ℕ)
-      (a : MaybeTargets) → did x calls ≡ before ++ (sliced [] k a ∷ after) → (k ≡ 0) × (a ≡ nothing)
+  pub empty : (calls : List Call) → Every ByteCall calls → (before after : List (Did Answer)) (k : ℕ)
+      (a : Answer) → did x calls ≡ before ++ (sliced [] k a ∷ after) → (k ≡ 0) × (a ≡ nothing)
   -- a parser y with the same pending bytes and the same counters as the parser that the calls left goes on as that
   -- parser would
   pub resumed : (calls more : List Call) → Every ByteCall calls → Every ByteCall more

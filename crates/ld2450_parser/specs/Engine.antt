@@ -6,11 +6,10 @@ use Rattle.std.specs.Prelude.{List, ℕ, take}
 use Rattle.wire.specs.Counter.{counter_max}
 use Rattle.engine.specs.Engine.{Engine}
 use Rattle.ld2450.specs.Frame.{framed}
-use Rattle.ld2450_parser.specs.Stream.{Counter, frames, resyncs, dropped}
+use Rattle.ld2450_parser.specs.Stream.{Answer, Counter, frames, resyncs, dropped}
 use Rattle.ld2450_parser.specs.Feed.{or_reset, feed_of, feed_slice_of, reset_of, unfinished_of}
 use Rattle.ld2450_parser.specs.declared.Stats.{Stats}
 use Rattle.ld2450_parser.specs.declared.Parser.{Parser}
-use Rattle.ld2450_parser.specs.declared.MaybeTargets.{MaybeTargets}
 
 abbrev pub counter_in : Counter → Stats → ℕ
 counter_in frames st = st.frames
@@ -21,7 +20,7 @@ counter_in dropped st = st.dropped
 abbrev pub pending_by : Parser → List ℕ
 pending_by p = take (or_reset p.at) (framed p.buf)
 
-abbrev pub engine : Engine Parser MaybeTargets Counter
+abbrev pub engine : Engine Parser Answer Counter
 engine = record {
   feed = λ p b. ((feed_of p b).parser, (feed_of p b).answer);
   slice = λ p bs. record {

@@ -5,6 +5,7 @@
 --   or_reset n          the place n, or 0 if it is out of range: "as if reset came first"
 --   among n x y        x at a place of the targets, y at one of the header or the tail
 --   due_at n            the byte that is due at a place of the header or the tail
+--   Stepped            what a step leaves: the place and the counters; and whether it ended a frame
 --   continued n st     the step that leaves the place n and the counters st, and ends no frame
 --   ended st           the step that ends a frame
 --   abandoned st n     the counters after a broken start of n bytes
@@ -19,21 +20,16 @@
 --   feed_of p b         any parser after the byte b, and the answer; feed_slice_of p bs, after the slice bs
 --   reset_of p          any parser after a reset
 --   unfinished_of p     the length of the frame in progress
---   moved_of r, slice_moved_of r   the outcome r of a byte or a slice, without the buffer
 -- The papers leave this free: a byte of the buffer changes only where a target's byte is stored.
-use Rattle.std.specs.Prelude.{List, [], ◌∷◌, Bool, true, false, cond, ℕ, suc, ◌+◌, ◌-◌, eqb, leb, ltb, get_or, set, replicate}
+use Rattle.std.specs.Prelude.{List, [], ◌∷◌, Bool, true, false, cond, ℕ, suc, ◌+◌, ◌-◌, eqb, leb, ltb, get_or, set, replicate, Some, is_some}
 use Rattle.wire.specs.Counter.{bumped}
 use Rattle.ld2450.specs.Target.{three_of}
 use Rattle.ld2450.specs.Frame.{header, tail}
-use Rattle.ld2450_parser.specs.Stream.{nothing}
+use Rattle.ld2450_parser.specs.Stream.{Answer, nothing}
 use Rattle.ld2450_parser.specs.declared.Stats.{Stats}
 use Rattle.ld2450_parser.specs.declared.Parser.{Parser}
-use Rattle.ld2450_parser.specs.declared.MaybeTargets.{MaybeTargets}
 use Rattle.ld2450_parser.specs.declared.Fed.{Fed}
-use Rattle.ld2450_parser.specs.declared.FedSlice.{FedSlice}
-use Rattle.ld2450_parser.specs.declared.steps.Stepped.{Stepped}
-use Rattle.ld2450_parser.specs.declared.feeding.Moved.{Moved}
-use Rattle.ld2450_parser.specs.declared.feeding.MovedSlice.{MovedSlice}
+use Rattle.ld2450_parser.specs.declared.Taken.{Taken}
 
 abbrev pub no_stats : Stats
 no_stats = record { frames = 0; resyncs = 0; dropped = 0 }
@@ -52,6 +48,11 @@ among n x y = cond (ltb n 4) y (cond (ltb n 28) x y)
 
 unfoldable pub due_at : ℕ → ℕ
 due_at n = cond (ltb n 4) (get_or header n 0) (get_or tail (n - 28) 0)
+
+pub record Stepped : Type 0 where
+  pub at : ℕ
+  pub stats : Stats
+  pub ended : Bool
 
 abbrev pub continued : ℕ → Stats → Stepped
 continued n st = record { at = n; stats = st; ended = false }
@@ -87,35 +88,35 @@ step_of n st b = among n (continued (n + 1) st) (where_due n st b)
 unfoldable pub stored : ℕ → List ℕ → ℕ → List ℕ
 stored n buf b = among n (set buf (n - 4) b) buf
 
-unfoldable pub answer_if : Bool → List ℕ → MaybeTargets
-answer_if e d = cond e (record { there = true; targets = three_of d }) nothing
+unfoldable pub answer_if : Bool → List ℕ → Answer
+answer_if e d = cond e (Some (three_of d)) nothing
 
-unfoldable pub stepped : Parser → ℕ → Fed
+unfoldable pub stepped : Parser → ℕ → Fed Answer
 stepped p b =
     let s = step_of p.at p.stats b in
     let d = stored p.at p.buf b in
     record { parser = put d s.at s.stats; answer = answer_if s.ended d }
 
 -- "bytes up to and including the end of the first whole frame": the next bytes are fed only if the byte ended no frame
-abbrev pub then_run : Fed → FedSlice → FedSlice
-then_run one more = cond one.answer.there
+abbrev pub then_run : Fed Answer → Fed Taken → Fed Taken
+then_run one more = cond (is_some one.answer)
     (record { parser = one.parser; answer = record { count = 1; frame = one.answer } })
     (record {
       parser = more.parser;
       answer = record { count = suc more.answer.count; frame = more.answer.frame };
     })
 
-unfoldable pub run_of : Parser → List ℕ → FedSlice
+unfoldable pub run_of : Parser → List ℕ → Fed Taken
 run_of p [] = record { parser = p; answer = record { count = 0; frame = nothing } }
 run_of p (b ∷ bs) = then_run (stepped p b) (run_of (stepped p b).parser bs)
 
 abbrev pub still : Parser → Parser
 still p = put p.buf (or_reset p.at) p.stats
 
-unfoldable pub feed_of : Parser → ℕ → Fed
+unfoldable pub feed_of : Parser → ℕ → Fed Answer
 feed_of p b = stepped (still p) b
 
-unfoldable pub feed_slice_of : Parser → List ℕ → FedSlice
+unfoldable pub feed_slice_of : Parser → List ℕ → Fed Taken
 feed_slice_of p bs = run_of (still p) bs
 
 -- "`reset` forgets an unfinished frame and keeps the counters"
@@ -124,9 +125,3 @@ reset_of p = put p.buf 0 p.stats
 
 unfoldable pub unfinished_of : Parser → ℕ
 unfinished_of p = or_reset p.at
-
-abbrev pub moved_of : Fed → Moved
-moved_of r = record { at = r.parser.at; stats = r.parser.stats; answer = r.answer }
-
-abbrev pub slice_moved_of : FedSlice → MovedSlice
-slice_moved_of r = record { at = r.parser.at; stats = r.parser.stats; answer = r.answer }

@@ -6,11 +6,12 @@
 --   two_slices       that stream as a slice, and the rest that is not taken as another
 --   counted_from n   the counters that these slices leave, where each held n
 --   Shown x         that stream divides so, and the parser x delivers the frame and counts the pieces
-use Rattle.std.specs.Prelude.{◌≡◌, ◌≢◌, ◌↔◌, ◌⊎◌, List, [], ◌∷◌, ◌++◌, ℕ, ◌≤◌, ◌<◌, length, get_or, take, drop, replicate}
+use Rattle.std.specs.Prelude.{◌≡◌, ◌≢◌, ◌↔◌, ◌⊎◌, List, [], ◌∷◌, ◌++◌, ℕ, ◌≤◌, ◌<◌, length, get_or, take, drop, replicate, Some, Ok}
 use Rattle.framing.specs.Piece.{Piece, stray, broken, whole, unfinished}
 use Rattle.framing.specs.Division.{Division}
 use Rattle.engine.specs.Calls.{Call, slice, sliced}
-use Rattle.ld2450.specs.Frame.{framed, parsed_targets, returned_targets}
+use Rattle.ld2450.specs.Frame.{framed, parsed_targets}
+use Rattle.ld2450.specs.declared.targets.Target.{Target}
 use Rattle.ld2450.specs.Claims.{seen}
 use Rattle.ld2450_parser.specs.Stream.{Open, Whole, nothing, delivered}
 use Rattle.ld2450_parser.specs.Feed.{put, unfinished_of}
@@ -21,7 +22,7 @@ use Rattle.ld2450_parser.specs.declared.Stats.{Stats}
 -- "every whole frame decodes"
 unfoldable pub DeliversWhole : Type 0
 DeliversWhole = (f : List ℕ) → Whole f
-    → ((returned_targets (parsed_targets f)).number ≡ 0) × ((parsed_targets f).targets ≡ (delivered f).targets)
+    → (ts : List Target) × (parsed_targets f ≡ Ok ts) × (delivered f ≡ Some ts)
 
 unfoldable pub StrayBytes : Type 0
 StrayBytes = (b : ℕ) → (¬ Open (b ∷ [])) ↔ (b ≢ 0xAA)

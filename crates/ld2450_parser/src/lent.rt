@@ -3,29 +3,26 @@ ghost use Rattle.std.specs.Prelude.{◌≡◌, []};
 ghost use Rattle.ld2450_parser.specs.Feed.{feed_of, feed_slice_of, reset_of};
 ghost use Rattle.ld2450_parser.specs.Claims.{FromHere, FromAny, Determined, ResetFirst};
 
-use super::{MaybeTargets, Parser, Stats, Taken};
-use crate::feeding::{feed_at, feed_slice_at};
-use crate::steps::hunting;
+use super::{Parser, Stats, Taken};
+use crate::steps::{HUNTING, or_reset};
+use ld2450::{TARGETS, Target};
 
 impl Parser {
     // Feeds as `fed` does, on a parser that is lent: it stays in place, and nothing of its buffer is copied.
-    pub fn feed(&mut self, byte: u8) -> MaybeTargets
+    #[tactic(auto, unfolding(crate::specs::Feed::feed_of))]
+    pub fn feed(&mut self, byte: u8) -> Option<[Target; TARGETS]>
         ensures fed { (result ≡ (feed_of self.old byte).answer)
             × (self.new ≡ (feed_of self.old byte).parser) }
         ensures any { FromAny self.old }
     {
-        let at = self.at;
-        let stats = self.stats;
         // Read, so that the proof knows that each counter fits its type.
         let Stats {
             frames,
             resyncs,
             dropped,
         } = self.stats;
-        let moved = feed_at(&mut self.buf, at, stats, byte);
-        self.at = moved.at;
-        self.stats = moved.stats;
-        moved.answer
+        self.at = or_reset(self.at);
+        self.step(byte)
     }
 
     // Feeds as `fed_slice` does, on a parser that is lent.
@@ -34,18 +31,26 @@ impl Parser {
             × (self.new ≡ (feed_slice_of self.old bytes.now).parser) }
         ensures any { FromAny self.old }
     {
-        let at = self.at;
-        let stats = self.stats;
         // Read, so that the proof knows that each counter fits its type.
         let Stats {
             frames,
             resyncs,
             dropped,
         } = self.stats;
-        let run = feed_slice_at(&mut self.buf, at, stats, bytes);
-        self.at = run.at;
-        self.stats = run.stats;
-        run.answer
+        self.at = or_reset(self.at);
+        for (i, byte) in bytes.iter().enumerate() {
+            let frame = self.step(*byte);
+            if frame.is_some() {
+                return Taken {
+                    count: i + 1,
+                    frame,
+                };
+            }
+        }
+        Taken {
+            count: bytes.len(),
+            frame: None,
+        }
     }
 
     // Resets as `cleared` does, on a parser that is lent.
@@ -61,6 +66,6 @@ impl Parser {
             resyncs,
             dropped,
         } = self.stats;
-        self.at = hunting();
+        self.at = HUNTING;
     }
 }

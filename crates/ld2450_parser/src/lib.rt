@@ -3,14 +3,9 @@
 
 #![tactic(auto)]
 
-pub use ld2450::{
-    Error, FRAME_LEN, HELD_LEN, Outcome, TARGETS, Target, TargetsResult, WriteResult, read_targets,
-    write_targets,
-};
+pub use ld2450::{Error, FRAME_LEN, HELD_LEN, TARGETS, Target, read_targets, write_targets};
 
-mod feeding;
 mod lent;
-mod run;
 mod steps;
 mod value;
 
@@ -19,7 +14,7 @@ ghost use Rattle.ld2450_parser.specs.Feed.{fresh, unfinished_of};
 ghost use Rattle.ld2450_parser.specs.Claims.{FromHere, Accounted, Determined, Receives};
 ghost use Rattle.ld2450_parser.specs.Pieces.{DeliversWhole, StrayBytes, BrokenFrames, Shown};
 
-use steps::{hunting, or_reset};
+use steps::{HUNTING, or_reset};
 
 // The counters: whole frames; broken starts; stray bytes and the bytes of broken starts.
 #[derive(Clone, Copy)]
@@ -38,31 +33,18 @@ pub struct Parser {
     pub stats: Stats,
 }
 
-// The targets of a frame, if there is one; else every field is 0.
-#[derive(Clone, Copy)]
-pub struct MaybeTargets {
-    pub there: bool,
-    pub targets: [Target; TARGETS],
-}
-
 // The number of bytes that a slice feed took, and the targets of the frame that they completed, if any.
 #[derive(Clone, Copy)]
 pub struct Taken {
     pub count: usize,
-    pub frame: MaybeTargets,
+    pub frame: Option<[Target; TARGETS]>,
 }
 
-// A parser handed back, with the answer.
+// A parser handed back, with the answer: that of a byte, or of a slice.
 #[derive(Clone, Copy)]
-pub struct Fed {
+pub struct Fed<A> {
     pub parser: Parser,
-    pub answer: MaybeTargets,
-}
-
-#[derive(Clone, Copy)]
-pub struct FedSlice {
-    pub parser: Parser,
-    pub answer: Taken,
+    pub answer: A,
 }
 
 impl Parser {
@@ -78,7 +60,7 @@ impl Parser {
     {
         Parser {
             buf: [0; HELD_LEN],
-            at: hunting(),
+            at: HUNTING,
             stats: Stats {
                 frames: 0,
                 resyncs: 0,
@@ -95,6 +77,7 @@ impl Parser {
     }
 
     // Returns the length of the frame in progress.
+    #[tactic(auto, unfolding(crate::specs::Feed::unfinished_of))]
     pub fn unfinished(self) -> usize
         ensures told { result ≡ unfinished_of self }
     {

@@ -1,51 +1,37 @@
-// The parser by value: taken, fed or reset, and handed back.
+// The parser by value: taken, fed or reset, and handed back. Each call lends a local to the same call on a lent parser,
+// so that its own caller lends nothing.
 ghost use Rattle.std.specs.Prelude.{◌≡◌, []};
 ghost use Rattle.ld2450_parser.specs.Feed.{feed_of, feed_slice_of, reset_of};
 ghost use Rattle.ld2450_parser.specs.Claims.{FromHere, FromAny, Determined, ResetFirst};
 
-use super::{Fed, FedSlice, Parser};
-use crate::feeding::{feed_at, feed_slice_at};
-use crate::steps::hunting;
+use super::{Fed, Parser, Taken};
+use ld2450::{TARGETS, Target};
 
 impl Parser {
     // Feeds one received byte. The answer is the targets of the frame that this byte completed, or none. A parser with
     // `at` above 29 is handled as if reset came first.
-    pub fn fed(self, byte: u8) -> Fed
+    pub fn fed(self, byte: u8) -> Fed<Option<[Target; TARGETS]>>
         ensures fed { result ≡ feed_of self byte }
         ensures any { FromAny self }
     {
-        let mut buf = self.buf;
-        let stats = self.stats;
-        let moved = feed_at(&mut buf, self.at, stats, byte);
-        let counted = moved.stats;
-        let answer = moved.answer;
+        let mut lent = self;
+        let answer = lent.feed(byte);
         Fed {
-            parser: Parser {
-                buf,
-                at: moved.at,
-                stats: counted,
-            },
+            parser: lent,
             answer,
         }
     }
 
     // Feeds bytes up to and including the end of the first whole frame, else all of them. The answer is how many, and
     // the frame's targets. Call again with the rest.
-    pub fn fed_slice(self, bytes: &[u8]) -> FedSlice
+    pub fn fed_slice(self, bytes: &[u8]) -> Fed<Taken>
         ensures fed { result ≡ feed_slice_of self bytes.now }
         ensures any { FromAny self }
     {
-        let mut buf = self.buf;
-        let stats = self.stats;
-        let run = feed_slice_at(&mut buf, self.at, stats, bytes);
-        let counted = run.stats;
-        let answer = run.answer;
-        FedSlice {
-            parser: Parser {
-                buf,
-                at: run.at,
-                stats: counted,
-            },
+        let mut lent = self;
+        let answer = lent.feed_slice(bytes);
+        Fed {
+            parser: lent,
             answer,
         }
     }
@@ -58,12 +44,8 @@ impl Parser {
         ensures determined { Determined [] result }
         ensures first { ResetFirst self result }
     {
-        let buf = self.buf;
-        let stats = self.stats;
-        Parser {
-            buf,
-            at: hunting(),
-            stats,
-        }
+        let mut lent = self;
+        lent.reset();
+        lent
     }
 }

@@ -7,11 +7,11 @@ use Rattle.ld2450_parser.proofs.Parser.new.Goals as goal
 pub returns : goal.returns
 returns c =
     let x = fresh_claims in
-    rw c.hunting.ensures.hunting (record {
+    record {
       made = refl;
       fulfilled = x.0;
       accounted = x.1.0;
       determined = x.1.1.0;
       received = x.1.1.1;
       shown = shown;
-    })
+    }

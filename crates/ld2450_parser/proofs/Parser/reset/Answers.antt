@@ -8,9 +8,4 @@ use Rattle.ld2450_parser.proofs.Parser.reset.Goals as goal
 pub returns : goal.returns
 returns c =
     let x = known_reset c.args.self.now (omega arith) (omega arith) (omega arith) (omega arith) in
-    rw c.hunting-self.ensures.hunting (record {
-      reset = refl;
-      fulfilled = x.fulfilled;
-      determined = x.determined;
-      first = x.first;
-    })
+    record { reset = refl; fulfilled = x.fulfilled; determined = x.determined; first = x.first }
