@@ -1,6 +1,6 @@
 -- Numbers put one after the other.
 use mathlib.Core.Path.{◌≡◌, refl, ap}
-use mathlib.Core.List.{List, [], ◌∷◌, ◌++◌, append_assoc, append-nil}
+use mathlib.Core.List.{List, [], ◌∷◌, ◌++◌, append_assoc, append-nil, map}
 use Prim.Native.Nat.{ℕ, ◌+◌, ◌<◌, ◌≤◌}
 use native.Mathlib.Numerals.{add-one}
 use lib.ListN.{length, drop, get_or}
@@ -18,14 +18,15 @@ numbers_cons : (v : ℕ) (vs : List ℕ) → numbers_of (v ∷ []) ++ numbers_of
 unfolding numbers_of
 numbers_cons v vs = ap (λ (s : List ℕ). 32 ∷ s) (append_assoc (decimal_of v) [] (numbers_of vs))
 
--- A loop over numbers: one is put, then those after it.
-pub number_next : (g : Gathered) (s : List ℕ) (i : ℕ) → i < length s
-    → put_all (put_all g (numbers_of (get_or s i 0 ∷ []))) (numbers_of (drop (i + 1) s))
-    ≡ put_all g (numbers_of (drop i s))
-number_next g s i h = rw (put_append, numbers_cons, add-one, drop-cons s i 0)
+-- A loop over values with numbers: one is put, then those after it.
+module _ {X : Type 0} (f : X → ℕ) (g : Gathered) (s : List X) (i : ℕ) where
+  pub number_next : (x : X) → x ≡ get_or s i x → i < length s
+      → put_all (put_all g (numbers_of (f x ∷ []))) (numbers_of (map f (drop (i + 1) s)))
+      ≡ put_all g (numbers_of (map f (drop i s)))
+  number_next x e h = rw (put_append, numbers_cons, add-one, drop-cons s i x, ← e)
 
-pub numbers_done : (g : Gathered) (s : List ℕ) (i : ℕ) → length s ≤ i → put_all g (numbers_of (drop i s)) ≡ g
-unfolding numbers_of put_all
-numbers_done g s i h = rw (drop_all i s h)
+  pub numbers_done : length s ≤ i → put_all g (numbers_of (map f (drop i s))) ≡ g
+  unfolding numbers_of put_all
+  numbers_done h = rw (drop_all i s h)
 
 pub ruleset each_number = (number_next, numbers_done)

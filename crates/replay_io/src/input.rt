@@ -29,7 +29,8 @@ pub enum Found {
 }
 
 // The next case: the bytes of the buffer from `start` to `end`, of the `read` bytes that were read. If no case is
-// found, it has no bytes.
+// found, it has no bytes. It has places and no slice, since more is read into the buffer after it: the clause `found`
+// of `next_case` names them.
 #[derive(Clone, Copy)]
 pub struct Next {
     pub start: usize,

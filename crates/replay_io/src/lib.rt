@@ -8,4 +8,5 @@ pub mod argument;
 pub mod commands;
 pub mod input;
 pub mod line;
+pub mod number;
 pub mod script;

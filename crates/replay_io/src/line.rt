@@ -2,18 +2,20 @@
 //
 // No contract can name what is printed: each says what the buffer holds then, and that after a full buffer a byte is
 // put in front. What a writer refuses is lost, and the answers go on.
-ghost use Rattle.std.specs.Prelude.{◌≡◌, [], ◌∷◌};
+ghost use Rattle.std.specs.Prelude.{◌≡◌, [], ◌∷◌, map};
 ghost use Rattle.replay_io.specs.Line.{fresh, put_byte, put_all};
 ghost use Rattle.replay_io.specs.Line.{decimal_of, numbers_of, signed_text, none_text, line_feed, closing};
 
 use crate::input::Found;
+use crate::number::Number;
 use std::io::{Stdout, Write};
 use std::marker::Model;
 
 // Bytes of the buffer.
 pub const SIZE: usize = 65_536;
 
-// The buffer, how many of its bytes are taken, and the writer that it goes to. A contract sees the first two.
+// The buffer, how many of its bytes are taken, and the writer that it goes to. A contract sees the first two. It is an
+// array with a count and no `Vec`: the clauses `put` name what stands in a full buffer once it is written.
 #[derive(Drop)]
 pub struct Buffer<W> {
     bytes: [u8; SIZE],
@@ -91,11 +93,11 @@ impl<W: Write> Buffer<W> {
 
     // Puts a number after a space.
     #[tactic(auto, using(crate::proofs::Numbers::number_put))]
-    pub fn number(&mut self, value: u64)
-        ensures put { self.new ≡ put_all self.old (numbers_of (value ∷ [])) }
+    pub fn number<N: Number>(&mut self, value: N)
+        ensures put { self.new ≡ put_all self.old (numbers_of (N.value value ∷ [])) }
     {
         self.put(b' ');
-        self.decimal(value);
+        self.decimal(value.to_u64());
     }
 
     // Puts a number after a space, with a minus sign if it is below 0.
@@ -107,27 +109,17 @@ impl<W: Write> Buffer<W> {
             self.literal(b" -");
             self.decimal(u64::from(value.unsigned_abs()));
         } else {
-            self.number(u64::from(value.unsigned_abs()));
+            self.number(value.unsigned_abs());
         }
     }
 
     // Puts numbers, each after a space.
     #[tactic(auto, using(crate::proofs::Numbers::each_number))]
-    pub fn numbers(&mut self, values: &[u64])
-        ensures put { self.new ≡ put_all self.old (numbers_of values.now) }
+    pub fn numbers<N: Number>(&mut self, values: &[N])
+        ensures put { self.new ≡ put_all self.old (numbers_of (map N.value values.now)) }
     {
         for value in values {
             self.number(*value);
-        }
-    }
-
-    // Puts each of the bytes as a number.
-    #[tactic(auto, using(crate::proofs::Numbers::each_number))]
-    pub fn bytes(&mut self, values: &[u8])
-        ensures put { self.new ≡ put_all self.old (numbers_of values.now) }
-    {
-        for value in values {
-            self.number(u64::from(*value));
         }
     }
 
