@@ -2,20 +2,16 @@
 use mathlib.Core.Path.{◌≡◌, refl, sym, ap, ◌∙◌}
 use mathlib.Core.Logic.{◌≢◌}
 use mathlib.Core.List.{List, ◌++◌, append_assoc}
-use mathlib.Core.Bool.{Bool, true, false, cond}
 use Prim.Native.Nat.{ℕ, ◌≤◌, min}
 use native.Mathlib.Omega.{arith}
-use lib.Dec.{eqb}
 use lib.ListN.{length, take, drop, take-append-drop}
 use lib.Seq.{drop-append-le, length-take-le, take-append_seam, drop-append_seam}
 use borrow.Author.Tests.{eq-eqb, ne_eqb}
 use Rattle.writer.specs.Written.{written}
-use Rattle.writer.proofs.Chain.{written_length}
 use Rattle.load_writer.specs.Load.{laid_down, load}
 use Rattle.load_writer.specs.Answer.{load_result, load_buffer, LoadCauses}
 use Rattle.load_writer.specs.Claims.{Filled}
-use Rattle.load_writer.specs.declared.LoadResult.{LoadResult}
-use Rattle.load_writer.specs.declared.LoadResult.TheVariants.{Ok, Err}
+use Rattle.std.specs.Prelude.{Ok, Err}
 use Rattle.load_writer.specs.declared.LoadError.TheVariants.{SeedZero}
 use Rattle.load_writer.proofs.Stopping.{load_within}
 
@@ -93,28 +89,3 @@ module _ {x : ℕ} (e : x ≢ 0) (out : List ℕ) {room : ℕ} (r : room ≡ min
         front = λ _. rw (told, left) (take-append_seam f (drop (length f) out));
         stay = rw (told, left) (drop-append_seam f (drop (length f) out));
       }
-
--- The filled length is inside the buffer, so that a caller can take the front.
-chose : (b : Bool) (k : ℕ) {n : ℕ} → Ok n ≡ cond b (Err SeedZero) (Ok k) → n ≡ k
-chose true k e = let z : ◌≡◌ {A = ℕ} 0 1 = cc in absurd (omega arith)
-chose false k e = cc
-
-module _ (x : ℕ) (out : List ℕ) {r : LoadResult} {left : List ℕ} (told : r ≡ load_result x (length out))
-    (holds : left ≡ load_buffer x out) {n : ℕ} (e : r ≡ Ok n) where
-  filled_is : n ≡ length (load x (length out))
-  unfolding load_result
-  filled_is = chose (eqb x 0) (length (load x (length out))) (sym e ∙ told)
-
-  buffer_length : (b : Bool) → length (cond b out (written out (load x (length out)))) ≡ length out
-  buffer_length true = refl
-  buffer_length false =
-      let w = load_within x (min (length out) 65536) in written_length out (load x (length out)) (omega arith)
-
-  pub filled_inside : n ≤ length left
-  unfolding load_buffer
-  filled_inside =
-      let w = load_within x (min (length out) 65536) in
-      omega (arith, filled_is, ap length holds, buffer_length (eqb x 0))
-
-  pub filled_front : n ≡ length (take n left)
-  filled_front = sym (length-take-le n left filled_inside)

@@ -1,9 +1,9 @@
 -- Laws about the definitions, which the proofs of this crate cite.
--- One draw more, and the bytes that it adds.
+-- One draw more, and the byte that it adds.
 pub mod Drawing
 -- Draws are linear over bits, so pieces of one byte never write a header.
 pub mod Linear
--- The piece that a draw chooses, and where it is put.
+-- The piece that a draw chooses.
 pub mod Choosing
 -- The pieces that are laid down in so many bytes.
 pub mod Fitting

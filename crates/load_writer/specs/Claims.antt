@@ -9,15 +9,16 @@
 --   LoadExamples          draws; a load of each kind of piece; what follows a report; a load of three pieces, and one
 --                         that stops although the piece after the next would fit
 use Rattle.std.specs.Prelude.{◌≡◌, ◌≢◌, List, [], ◌∷◌, ◌++◌, ℕ, suc, ◌≤◌, ◌<◌, min, length, take, drop}
+use Rattle.std.specs.declared.result.Result.{Result}
 use Rattle.wire.specs.Family.{framed}
 use Rattle.wire.specs.declared.Kind.TheVariants.{Command}
 use Rattle.load_writer.specs.Draw.{draw_of}
 use Rattle.load_writer.specs.Load.{first_pieces, load}
 use Rattle.load_writer.specs.Answer.{returned_load}
-use Rattle.load_writer.specs.declared.LoadResult.{LoadResult}
+use Rattle.load_writer.specs.declared.LoadError.{LoadError}
 
 -- "The filled length is returned, and bytes after it stay."
-pub record Filled (x : ℕ) (out : List ℕ) (r : LoadResult) (left : List ℕ) : Type 0 where
+pub record Filled (x : ℕ) (out : List ℕ) (r : Result ℕ LoadError) (left : List ℕ) : Type 0 where
   pub front : x ≢ 0 → take (returned_load r).value left ≡ load x (length out)
   -- beside a refusal the filled length is 0, so all bytes stay
   pub stay : drop (returned_load r).value left ≡ drop (returned_load r).value out

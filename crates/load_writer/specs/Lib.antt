@@ -1,6 +1,5 @@
 pub mod Draw
 pub mod Load
-pub mod Drawn
 pub mod Answer
 pub mod Claims
 pub mod Counts

@@ -1,42 +1,62 @@
-// The generator, which holds one number: its draws, and nine of them as bytes.
-ghost use Rattle.std.specs.Prelude.{◌≡◌, ◌%◌};
+// The generator, which holds one number, and what it draws.
+ghost use Rattle.std.specs.Prelude.{◌≡◌, ℕ, ◌%◌};
 ghost use Rattle.load_writer.specs.Draw.{draw_of};
-ghost use Rattle.load_writer.specs.Drawn.{nine_drawn};
+ghost use Rattle.load_writer.specs.Load.{after, drawn};
 
-// Nine bytes that were drawn, and the number that the generator holds then.
+use std::marker::Model;
+
+// The generator; contracts see it as the number that it holds.
 #[derive(Clone, Copy)]
-pub(crate) struct Nine {
-    pub bytes: [u8; 9],
-    pub next: u32,
+pub(crate) struct Draws {
+    held: u32,
 }
 
-// Draws: returns the number that the generator holds after x.
-pub(crate) fn draw(x: u32) -> u32
-    ensures drawn { result ≡ draw_of x }
-{
-    let a = x ^ (x << 13);
-    let b = a ^ (a >> 17);
-    b ^ (b << 5)
+impl Model for Draws {
+    ghost Value = { ℕ };
+
+    ghost view = { λ d. d.held };
+
+    ghost inverse = { λ n. record { held = n } };
 }
 
-// Returns a draw modulo 256.
-pub(crate) fn low_byte(x: u32) -> u8
-    ensures taken { result ≡ x % 256 }
-{
-    (x % 256) as u8
-}
-
-// Draws nine bytes.
-pub(crate) fn draw_nine(x: u32) -> Nine
-    ensures drawn { result ≡ nine_drawn x }
-{
-    let mut next = x;
-    let mut bytes: [u8; 9] = [0; 9];
-    let mut i = 0;
-    while i < 9 {
-        next = draw(next);
-        bytes[i] = low_byte(next);
-        i += 1;
+impl Draws {
+    // Returns a generator that holds the seed.
+    pub(crate) fn new(seed: u32) -> Draws
+        ensures holds { result ≡ seed }
+    {
+        Draws { held: seed }
     }
-    Nine { bytes, next }
+
+    // Draws: returns the number that the generator then holds.
+    #[tactic(auto, unfolding(crate::specs::Draw::draw_of))]
+    pub(crate) fn draw(&mut self) -> u32
+        ensures drawn { result ≡ draw_of self.old }
+        ensures holds { self.new ≡ draw_of self.old }
+    {
+        let a = self.held ^ (self.held << 13);
+        let b = a ^ (a >> 17);
+        self.held = b ^ (b << 5);
+        self.held
+    }
+
+    // Draws a byte, which is a draw modulo 256.
+    pub(crate) fn byte(&mut self) -> u8
+        ensures drawn { result ≡ draw_of self.old % 256 }
+        ensures holds { self.new ≡ draw_of self.old }
+    {
+        (self.draw() % 256) as u8
+    }
+
+    // Draws nine bytes.
+    #[tactic(auto, using(crate::proofs::Drawing::drawing))]
+    pub(crate) fn nine(&mut self) -> [u8; 9]
+        ensures drawn { result ≡ drawn 9 self.old }
+        ensures holds { self.new ≡ after 9 self.old }
+    {
+        let mut bytes = [0; 9];
+        for byte in bytes.iter_mut() {
+            *byte = self.byte();
+        }
+        bytes
+    }
 }

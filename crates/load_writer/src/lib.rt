@@ -12,25 +12,17 @@ ghost use Rattle.load_writer.specs.Answer.{load_number, load_result, load_buffer
 ghost use Rattle.load_writer.specs.Claims.{Filled, StopsOnce, Prefix, LoadExamples};
 ghost use Rattle.load_writer.specs.Counts.{Counted};
 
+use draws::Draws;
 use pieces::put_piece;
-use wire::min;
-use writer::Placed;
 
 // The most bytes of a load.
 pub const MAX_LOAD: usize = 65_536;
 
 // The refusal of `write_load`.
-#[derive(Clone, Copy)]
+#[derive(Clone, Copy, PartialEq, Eq)]
 pub enum LoadError {
     // 9: the seed is zero.
     SeedZero,
-}
-
-// The answer of `write_load`: the filled length, or the refusal.
-#[derive(Clone, Copy)]
-pub enum LoadResult {
-    Ok(usize),
-    Err(LoadError),
 }
 
 impl LoadError {
@@ -44,27 +36,22 @@ impl LoadError {
     }
 }
 
-// Lays down the pieces after a number, up to the first that would pass the buffer's end, and returns the filled length.
+// Lays down the pieces after the seed, up to the first that would pass the buffer's end, and returns the filled length.
 fn fill(out: &mut [u8], seed: u32) -> usize
     ensures count { result ≡ length (laid_down seed (length out.old)) }
     ensures left { out.new ≡ written out.old (laid_down seed (length out.old)) }
 {
-    let mut x = seed;
+    let mut draws = Draws::new(seed);
     let mut at = 0;
-    loop {
-        let piece = put_piece(out, at, x);
-        let placed = piece.placed;
-        let Placed::End(end) = placed else {
-            return at;
-        };
-        x = piece.next;
+    while let Some(end) = put_piece(out, at, &mut draws) {
         at = end;
     }
+    at
 }
 
 // Writes the load of a seed into the front of `out`, at most 65,536 bytes, and returns the filled length. Bytes after
 // the load stay. Refuses the seed zero with 9, before all else; a refused call changes no byte.
-pub fn write_load(out: &mut [u8], seed: u32) -> LoadResult
+pub fn write_load(out: &mut [u8], seed: u32) -> Result<usize, LoadError>
     ensures answered { result ≡ load_result seed (length out.old) }
     ensures left { out.new ≡ load_buffer seed out.old }
     ensures causes { LoadCauses seed (length out.old) result }
@@ -75,8 +62,8 @@ pub fn write_load(out: &mut [u8], seed: u32) -> LoadResult
     ensures examples { LoadExamples }
 {
     if seed == 0 {
-        return LoadResult::Err(LoadError::SeedZero);
+        return Err(LoadError::SeedZero);
     }
-    let room = min(out.len(), MAX_LOAD);
-    LoadResult::Ok(fill(&mut out[..room], seed))
+    let room = out.len().min(MAX_LOAD);
+    Ok(fill(&mut out[..room], seed))
 }

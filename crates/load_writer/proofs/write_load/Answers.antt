@@ -8,7 +8,8 @@ use borrow.Author.Rules.{rules}
 use Rattle.load_writer.specs.Answer.{load_result, load_buffer, LoadCauses}
 use Rattle.load_writer.specs.Claims.{Filled, StopsOnce, Prefix, LoadExamples}
 use Rattle.load_writer.specs.Counts.{Counted}
-use Rattle.load_writer.specs.declared.LoadResult.{LoadResult}
+use Rattle.std.specs.declared.result.Result.{Result}
+use Rattle.load_writer.specs.declared.LoadError.{LoadError}
 use Rattle.load_writer.proofs.Stopping.{load_stops_once, load_prefix}
 use Rattle.load_writer.proofs.Answered.{zero_told, zero_left, zero_caused, zero_filled}
 use Rattle.load_writer.proofs.Answered.{load_told, load_left, load_caused, load_filled}
@@ -17,7 +18,7 @@ use Rattle.load_writer.proofs.Printed.{examples}
 use Rattle.load_writer.proofs.write_load.Goals as goal
 
 -- What is shown: the answer, the buffer and the causes, beside the claims about the load, refused or not.
-abbrev Written : ℕ → List ℕ → LoadResult → List ℕ → Type 0
+abbrev Written : ℕ → List ℕ → Result ℕ LoadError → List ℕ → Type 0
 Written x out r buf =
     record {
       answered : r ≡ load_result x (length out);
@@ -30,7 +31,7 @@ Written x out r buf =
       examples : LoadExamples;
     }
 
-shown : (x : ℕ) (out : List ℕ) (r : LoadResult) (left : List ℕ) → x < 2 ^ 32 → r ≡ load_result x (length out)
+shown : (x : ℕ) (out : List ℕ) (r : Result ℕ LoadError) (left : List ℕ) → x < 2 ^ 32 → r ≡ load_result x (length out)
     → left ≡ load_buffer x out → LoadCauses x (length out) r → Filled x out r left → Written x out r left
 shown x out r left l told kept causes filled = record {
   answered = told;
@@ -51,7 +52,7 @@ returns-then-seed-eq0 c =
 pub returns : goal.returns
 returns c =
     let seed = c.if-seed-eq0.false in
-    let room = c.min-room.ensures.chosen in
+    let room = c.min-room.ensures in
     let count = c.fill.ensures.count in
     let front = c.fill.ensures.left in
     shown _ _ _ _ (search rules) (load_told seed _ room count) (load_left seed _ room front)
