@@ -32,7 +32,8 @@ module _ (s : List ℕ) where
   unfolding checked_frame envelope
   fails_framing c e = go (family s) e
     where
-      go : (o : Option Kind) → opened_as o (first_failed frame_checks s) (6 + announced s) ≡ Err c → checked_as o s ≡ Err c
+      go : (o : Option Kind) → opened_as o (first_failed frame_checks s) (6 + announced s) ≡ Err c
+          → checked_as o s ≡ Err c
       go (Some k) q = rw (failed_before s (then_body (family s)) frame_checks c (failed_first s c e))
       go None q = cc
 
@@ -47,7 +48,8 @@ module _ (s : List ℕ) where
       )
 
   -- The same of the part of the bytes that the code takes for the data.
-  pub passes_part : (v : Envelope) → envelope s ≡ Ok v → checked_frame s ≡ decoded 10 v.kind (take (v.end - 6) (drop 6 s))
+  pub passes_part : (v : Envelope) → envelope s ≡ Ok v
+      → checked_frame s ≡ decoded 10 v.kind (take (v.end - 6) (drop 6 s))
   passes_part v e = rw (opened_part s v e).part (passes_framing v e)
 
 -- A frame is read as its data are.
@@ -67,7 +69,8 @@ pub parsed_causes : (s : List ℕ) → Causes no_fields (checks_for s) s (return
 unfolding parsed_frame checked_frame
 parsed_causes s = go (family s) refl
   where
-    go : (o : Option Kind) → family s ≡ o → Causes no_fields (checks_for s) s (returned_frame (told_by (checked_as o s)))
+    go : (o : Option Kind) → family s ≡ o
+        → Causes no_fields (checks_for s) s (returned_frame (told_by (checked_as o s)))
     go (Some k) e =
         let x = frame_of 10 k (data_of s) in
         rw (as_returned (first_failed (checks_for s) s) x) (causes (checks_for s) s no_fields (fields_of x))

@@ -43,7 +43,8 @@ module _ (k : Kind) (d : List ℕ) (small : length d < 65536) where
 
 module _ (d r : List ℕ) where
   -- The payload is the same in the frame's own bytes and in the buffer.
-  same_payload : (k : Kind) → payload_of (Some (frame_of 10 k d)) (framed k d) ≡ payload_of (Some (frame_of 4 k d)) (d ++ r)
+  same_payload : (k : Kind)
+      → payload_of (Some (frame_of 10 k d)) (framed k d) ≡ payload_of (Some (frame_of 4 k d)) (d ++ r)
   unfolding ack_of
   same_payload Report = refl
   same_payload Command =

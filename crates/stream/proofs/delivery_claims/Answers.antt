@@ -47,7 +47,8 @@ delivers_whole limit s w r bytes = ap delivered (whole_spelled limit s bytes w)
 
 -- `Frame::parse` gives a frame exactly if no check fails, and it is the same frame.
 told_alike : (r : Result Frame Check)
-    → ((is_ok r ≡ true) ↔ IsOk (told_by r)) × (option_map (counted_in 4) (result_ok r) ≡ option_map (counted_in 4) (result_ok (told_by r)))
+    → ((is_ok r ≡ true) ↔ IsOk (told_by r))
+    × (option_map (counted_in 4) (result_ok r) ≡ option_map (counted_in 4) (result_ok (told_by r)))
 told_alike (Ok x) = (((λ e. e), (λ e. e)), refl)
 told_alike (Err c) = (((λ e. e), (λ e. e)), refl)
 
