@@ -6,8 +6,10 @@ use mathlib.Core.Bool.{Bool, true, not}
 use Prim.Native.Nat.{ℕ}
 use lib.ListN.{length}
 use borrow.Author.Tests.{not-true}
+use Rattle.std.specs.Prelude.{Ok, Err}
+use Rattle.std.specs.declared.result.Result.{Result}
 use Rattle.refusal.specs.declared.Error.TheVariants.{UnknownCommand}
-use Rattle.wire.specs.Number.{le16_at}
+use Rattle.wire.specs.Number.{number_at}
 use Rattle.wire.specs.Counter.{bumped}
 use Rattle.wire.specs.Equal.{same_bytes}
 use Rattle.wire.specs.Family.{header_of, framed}
@@ -41,17 +43,16 @@ use Rattle.command_reader.specs.Read.{is_command}
 use Rattle.command_reader.specs.CommandFrame.{IsCommandFrame, number_in}
 use Rattle.command_reader.specs.Candidate.{candidate, candidate_in, gate_for}
 use Rattle.command_reader.proofs.CommandRead.{frame_command, read_unencodable}
-use Rattle.command_reader.specs.declared.CommandResult.TheVariants as Read
 use Rattle.engine.specs.Runs.{history, final}
 use Rattle.session.specs.declared.Session.{Session}
-use Rattle.session.specs.Session.{send_of, buffer_of, receive_of, give_up_of}
+use Rattle.session.specs.Session.{answer_of, send_of, buffer_of, receive_of, give_up_of}
 use Rattle.session.specs.Machine.{Response, Conversation}
 use Rattle.session.specs.Claims.{session_call}
 use Rattle.session.proofs.Moved.{any_run}
 use Rattle.load_writer.specs.Draw.{draw_of}
 use Rattle.load_writer.specs.Load.{piece, laid_down}
 use Rattle.load_writer.specs.Answer.{load_result, load_buffer}
-use Rattle.load_writer.specs.declared.LoadResult.{LoadResult}
+use Rattle.load_writer.specs.declared.LoadError.{LoadError}
 use Rattle.cases.specs.Row.{Numbers, added_up, counted_by, Stream, StreamHolds, Run, RunHolds}
 use Rattle.cases.specs.Row.{CommandRow, encodes, parses, CommandHolds, Talk, TalkHolds, LoadRow, LoadHolds}
 use Rattle.cases.specs.Row.{stream, run, command, talk, load, Holds}
@@ -121,21 +122,21 @@ done (encodes c before answer after) = (
   encodes c before (write_result (unsupported c) (command_frame c) (length before))
       (buffer_after (unsupported c) (command_frame c) before),
 )
-done (parses s (Read.Ok c)) = (encodable c, parses (command_frame c) (Read.Ok c))
-done (parses s (Read.Err e)) =
-    (not (encodable (candidate_in s)), parses (command_frame (candidate_in s)) (Read.Err UnknownCommand))
+done (parses s (Ok c)) = (encodable c, parses (command_frame c) (Ok c))
+done (parses s (Err e)) =
+    (not (encodable (candidate_in s)), parses (command_frame (candidate_in s)) (Err UnknownCommand))
 
 abbrev stated : CommandRow → Bool × CommandRow
 stated r = (true, r)
 
 commands_computed : map done commands ≡ map stated commands
-unfolding framed data_with write_result buffer_after written candidate_in candidate number_in le16_at gate_for
+unfolding framed data_with write_result buffer_after written candidate_in candidate number_in number_at gate_for
 commands_computed = refl
 
 command_holds : (r : CommandRow) → done r ≡ stated r → CommandHolds r
 command_holds (encodes c before answer after) e = let f = ap (λ x. x.1) e in (cc, cc)
-command_holds (parses s (Read.Ok c)) e = let f = ap (λ x. x.1) e in is_command c (ap (λ x. x.0) e, cc)
-command_holds (parses s (Read.Err r)) e =
+command_holds (parses s (Ok c)) e = let f = ap (λ x. x.1) e in is_command c (ap (λ x. x.0) e, cc)
+command_holds (parses s (Err r)) e =
     let f = ap (λ x. x.1) e in
     let h : r ≡ UnknownCommand = cc in
     let same : command_frame (candidate_in s) ≡ s = cc in
@@ -157,7 +158,7 @@ abbrev wanted : Talk → Spoken
 wanted r = record { responses = r.responses; left = r.left }
 
 talks_computed : map spoken talks ≡ map wanted talks
-unfolding send_of buffer_of receive_of give_up_of framed data_with write_result buffer_after written
+unfolding answer_of send_of buffer_of receive_of give_up_of framed data_with write_result buffer_after written
 talks_computed = refl
 
 talk_holds : (r : Talk) → spoken r ≡ wanted r → TalkHolds r
@@ -169,10 +170,10 @@ talk_holds r e = record {
 }
 
 -- A load's answer and buffer, as computed and as the row says.
-abbrev wrote : LoadRow → LoadResult × List ℕ
+abbrev wrote : LoadRow → Result ℕ LoadError × List ℕ
 wrote r = (load_result r.seed (length r.before), load_buffer r.seed r.before)
 
-abbrev asked : LoadRow → LoadResult × List ℕ
+abbrev asked : LoadRow → Result ℕ LoadError × List ℕ
 asked r = (r.answer, r.after)
 
 loads_computed : map wrote loads ≡ map asked loads

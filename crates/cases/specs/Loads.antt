@@ -6,9 +6,9 @@
 --   mended_report   the first two pieces of the seed 2519: a report without its last byte, and that byte, F5
 --   later_report    the fourth piece of the seed 2526003851, after F4, F3 and F2, pieces of one byte each
 --   loads          the rows
-use Rattle.std.specs.Prelude.{List, [], ◌∷◌, ◌++◌, ℕ}
-use Rattle.load_writer.specs.declared.LoadResult.{LoadResult}
-use Rattle.load_writer.specs.declared.LoadResult.TheVariants.{Ok, Err}
+use Rattle.std.specs.Prelude.{List, [], ◌∷◌, ◌++◌, ℕ, Ok, Err}
+use Rattle.std.specs.declared.result.Result.{Result}
+use Rattle.load_writer.specs.declared.LoadError.{LoadError}
 use Rattle.load_writer.specs.declared.LoadError.TheVariants.{SeedZero}
 use Rattle.cases.specs.Row.{LoadRow}
 use Rattle.cases.specs.Commands.{buffer}
@@ -37,7 +37,7 @@ abbrev pub later_report : List ℕ
 later_report = 0xF4 ∷ 0xF3 ∷ 0xF2 ∷ 0xF1 ∷ 0x0D ∷ 0x00 ∷ 0x02 ∷ 0xAA ∷ 0x90 ∷ 0xF6 ∷ 0xEF ∷ 0xFE ∷ 0x69 ∷ 0x6E ∷ 0x6D
     ∷ 0xD8 ∷ 0xF1 ∷ 0x55 ∷ 0x00 ∷ 0xF8 ∷ 0xF7 ∷ 0xF6 ∷ 0xF5 ∷ []
 
-abbrev row : ℕ → List ℕ → LoadResult → List ℕ → LoadRow
+abbrev row : ℕ → List ℕ → Result ℕ LoadError → List ℕ → LoadRow
 row x before answer after = record { seed = x; before = before; answer = answer; after = after }
 
 abbrev pub loads : List LoadRow

@@ -14,6 +14,8 @@
 --   LoadHolds r      the row holds by what the contract of `write_load` cites
 --   Row              a row of any of these kinds; Holds r says when it holds
 use Rattle.std.specs.Prelude.{◌≡◌, List, ℕ, length}
+use Rattle.std.specs.declared.result.Result.{Result}
+use Rattle.refusal.specs.declared.Error.{Error}
 use Rattle.stream.specs.Length.{link_limit}
 use Rattle.framing.specs.Piece.{Piece}
 use Rattle.framing.specs.Division.{Division}
@@ -25,17 +27,15 @@ use Rattle.parser.specs.Feed.{fresh, unfinished_of}
 use Rattle.parser.specs.Claims.{did, left}
 use Rattle.parser.specs.declared.Parser.{Parser}
 use Rattle.writer.specs.Written.{write_result, buffer_after}
-use Rattle.writer.specs.declared.WriteResult.{WriteResult}
 use Rattle.command.specs.Command.{command_frame, unsupported}
 use Rattle.command_reader.specs.Read.{ReadTo}
 use Rattle.command.specs.declared.Command.{Command}
-use Rattle.command_reader.specs.declared.CommandResult.{CommandResult}
 use Rattle.engine.specs.Runs.{history, final}
 use Rattle.session.specs.declared.Session.{Session}
 use Rattle.session.specs.Machine.{Event, Response, Conversation}
 use Rattle.session.specs.Claims.{session_call}
 use Rattle.load_writer.specs.Answer.{load_result, load_buffer}
-use Rattle.load_writer.specs.declared.LoadResult.{LoadResult}
+use Rattle.load_writer.specs.declared.LoadError.{LoadError}
 
 pub record Numbers : Type 0 where
   pub frames : ℕ
@@ -88,8 +88,8 @@ pub record RunHolds (r : Run) : Type 0 where
   pub counted : counted_by (left r.start r.calls) ≡ r.numbers
 
 pub data CommandRow : Type 0 where
-  encodes : (c : Command) (before : List ℕ) (answer : WriteResult) (after : List ℕ) → CommandRow
-  parses : (s : List ℕ) (answer : CommandResult) → CommandRow
+  encodes : (c : Command) (before : List ℕ) (answer : Result ℕ Error) (after : List ℕ) → CommandRow
+  parses : (s : List ℕ) (answer : Result Command Error) → CommandRow
 
 abbrev pub CommandHolds : CommandRow → Type 0
 CommandHolds (encodes c before answer after) = (write_result (unsupported c) (command_frame c) (length before) ≡ answer)
@@ -112,7 +112,7 @@ pub record TalkHolds (r : Talk) : Type 0 where
 pub record LoadRow : Type 0 where
   pub seed : ℕ
   pub before : List ℕ
-  pub answer : LoadResult
+  pub answer : Result ℕ LoadError
   pub after : List ℕ
 
 pub record LoadHolds (r : LoadRow) : Type 0 where

@@ -12,15 +12,13 @@
 --   counting n        a parser whose four counters hold n
 --   each, each_done    calls that end every kind of piece that counts, and what they do
 --   runs              the rows
-use Rattle.std.specs.Prelude.{List, [], ◌∷◌, ◌++◌, true, false, ℕ, replicate, take, drop}
+use Rattle.std.specs.Prelude.{List, [], ◌∷◌, ◌++◌, true, false, ℕ, replicate, take, drop, Some}
 use Rattle.engineering.specs.Block.{no_engineering}
-use Rattle.report.specs.Report.{no_report}
 use Rattle.target_state.specs.declared.TargetState.{TargetState}
 use Rattle.target_state.specs.declared.TargetState.TheVariants.{Both, CalibrationRunning, CalibrationDone}
 use Rattle.target_state.specs.declared.TargetState.TheVariants.{CalibrationFailed}
-use Rattle.frame.specs.Frame.{no_ack}
-use Rattle.frame.specs.declared.FrameKind.TheVariants as Is
 use Rattle.frame.specs.declared.Frame.{Frame}
+use Rattle.frame.specs.declared.Frame.TheVariants as Is
 use Rattle.engine.specs.Calls.{Call, feed, slice, reset, Did, fed, sliced, cleared}
 use Rattle.stream.specs.Deliver.{Answer, nothing}
 use Rattle.scan.specs.Scan.{hunting}
@@ -37,20 +35,16 @@ abbrev pub b_in : ℕ → List ℕ
 b_in x = take 8 b ++ (x ∷ drop 9 b)
 
 abbrev pub report_in : TargetState → Frame
-report_in t = record {
-  kind = Is.Report;
-  report = record {
-    state = t;
-    moving_distance_cm = 120;
-    moving_energy = 60;
-    stationary_distance_cm = 150;
-    stationary_energy = 45;
-    detection_distance_cm = 200;
-    has_engineering = false;
-    engineering = no_engineering;
-  };
-  ack = no_ack;
-}
+report_in t = Is.Report (record {
+  state = t;
+  moving_distance_cm = 120;
+  moving_energy = 60;
+  stationary_distance_cm = 150;
+  stationary_energy = 45;
+  detection_distance_cm = 200;
+  has_engineering = false;
+  engineering = no_engineering;
+})
 
 abbrev pub b_report : Frame
 b_report = report_in Both
@@ -61,34 +55,26 @@ engineering_in x = 0xF4 ∷ 0xF3 ∷ 0xF2 ∷ 0xF1 ∷ 0x23 ∷ 0x00 ∷ 0x01 �
     ∷ 0x10 ∷ 0x13 ∷ 0x06 ∷ 0x06 ∷ 0x08 ∷ 0x04 ∷ 0x03 ∷ 0x05 ∷ 0x55 ∷ 0x00 ∷ 0xF8 ∷ 0xF7 ∷ 0xF6 ∷ 0xF5 ∷ []
 
 abbrev pub engineering_report_in : TargetState → Frame
-engineering_report_in t = record {
-  kind = Is.Report;
-  report = record {
-    state = t;
-    moving_distance_cm = 30;
-    moving_energy = 60;
-    stationary_distance_cm = 0;
-    stationary_energy = 57;
-    detection_distance_cm = 0;
-    has_engineering = true;
-    engineering = record {
-      moving_gates = 9;
-      stationary_gates = 9;
-      moving_energy = 0x3C ∷ 0x22 ∷ 0x05 ∷ 0x03 ∷ 0x03 ∷ 0x04 ∷ 0x03 ∷ 0x06 ∷ 0x05 ∷ [];
-      stationary_energy = 0x00 ∷ 0x00 ∷ 0x39 ∷ 0x10 ∷ 0x13 ∷ 0x06 ∷ 0x06 ∷ 0x08 ∷ 0x04 ∷ [];
-      extra = 0x03 ∷ 0x05 ∷ replicate 6 0;
-      extra_len = 2;
-    };
+engineering_report_in t = Is.Report (record {
+  state = t;
+  moving_distance_cm = 30;
+  moving_energy = 60;
+  stationary_distance_cm = 0;
+  stationary_energy = 57;
+  detection_distance_cm = 0;
+  has_engineering = true;
+  engineering = record {
+    moving_gates = 9;
+    stationary_gates = 9;
+    moving_energy = 0x3C ∷ 0x22 ∷ 0x05 ∷ 0x03 ∷ 0x03 ∷ 0x04 ∷ 0x03 ∷ 0x06 ∷ 0x05 ∷ [];
+    stationary_energy = 0x00 ∷ 0x00 ∷ 0x39 ∷ 0x10 ∷ 0x13 ∷ 0x06 ∷ 0x06 ∷ 0x08 ∷ 0x04 ∷ [];
+    extra = 0x03 ∷ 0x05 ∷ replicate 6 0;
+    extra_len = 2;
   };
-  ack = no_ack;
-}
+})
 
 abbrev pub enabled : Frame
-enabled = record {
-  kind = Is.Ack;
-  report = no_report;
-  ack = record { word = 0x00FF; ok = true; status = 0; payload = record { start = 4; len = 4 } };
-}
+enabled = Is.Ack (record { word = 0x00FF; ok = true; status = 0; payload = record { start = 4; len = 4 } })
 
 abbrev pub largest : ℕ
 largest = 18446744073709551615
@@ -104,7 +90,7 @@ abbrev each : List Call
 each = feed 0x00 ∷ slice (0xF4 ∷ 0x00 ∷ []) ∷ slice b ∷ slice bare ∷ []
 
 abbrev each_done : List (Did Answer)
-each_done = fed 0x00 nothing ∷ sliced (0xF4 ∷ 0x00 ∷ []) 2 nothing ∷ sliced b 23 (b_report, [])
+each_done = fed 0x00 nothing ∷ sliced (0xF4 ∷ 0x00 ∷ []) 2 nothing ∷ sliced b 23 (Some b_report, [])
     ∷ sliced bare 12 nothing ∷ []
 
 abbrev row : Parser → List Call → List (Did Answer) → Numbers → Run
@@ -114,10 +100,10 @@ abbrev pub runs : List Run
 runs =
     -- a report is delivered where its frame ends, inside a slice; the rest of the slice is fed again
     row fresh (slice (0x00 ∷ b ++ (0xF4 ∷ [])) ∷ slice (0xF4 ∷ []) ∷ [])
-    (sliced (0x00 ∷ b ++ (0xF4 ∷ [])) 24 (b_report, []) ∷ sliced (0xF4 ∷ []) 1 nothing ∷ []) (numbers 1 0 1 0 1)
+    (sliced (0x00 ∷ b ++ (0xF4 ∷ [])) 24 (Some b_report, []) ∷ sliced (0xF4 ∷ []) 1 nothing ∷ []) (numbers 1 0 1 0 1)
     -- an acknowledgement is delivered, and its payload is in the buffer
     ∷ row fresh (slice acknowledged ∷ [])
-    (sliced acknowledged 18 (enabled, 0x01 ∷ 0x00 ∷ 0x40 ∷ 0x00 ∷ []) ∷ []) (numbers 1 0 0 0 0)
+    (sliced acknowledged 18 (Some enabled, 0x01 ∷ 0x00 ∷ 0x40 ∷ 0x00 ∷ []) ∷ []) (numbers 1 0 0 0 0)
     -- a whole frame that does not decode ends the slice too, and is answered "no frame"
     ∷ row fresh (slice (bare ++ b) ∷ []) (sliced (bare ++ b) 12 nothing ∷ []) (numbers 0 0 0 1 0)
     -- "F4 F3, then reset: all counters 0"
@@ -129,12 +115,14 @@ runs =
     -- request 3: "state 04 to background calibration running, 05 to done, 06 to failed", "bytes 07 and above
     -- keep the old rule"
     ∷ row fresh (slice (b_in 0x04) ∷ slice (b_in 0x05) ∷ slice (b_in 0x06) ∷ slice (b_in 0x07) ∷ [])
-    (sliced (b_in 0x04) 23 (report_in CalibrationRunning, []) ∷ sliced (b_in 0x05) 23 (report_in CalibrationDone, [])
-    ∷ sliced (b_in 0x06) 23 (report_in CalibrationFailed, []) ∷ sliced (b_in 0x07) 23 (report_in Both, []) ∷ [])
+    (sliced (b_in 0x04) 23 (Some (report_in CalibrationRunning), [])
+    ∷ sliced (b_in 0x05) 23 (Some (report_in CalibrationDone), [])
+    ∷ sliced (b_in 0x06) 23 (Some (report_in CalibrationFailed), [])
+    ∷ sliced (b_in 0x07) 23 (Some (report_in Both), []) ∷ [])
     (numbers 4 0 0 0 0)
     -- the engineering block of such a report is read as in any other
     ∷ row fresh (slice (engineering_in 0x05) ∷ [])
-    (sliced (engineering_in 0x05) 45 (engineering_report_in CalibrationDone, []) ∷ []) (numbers 1 0 0 0 0)
+    (sliced (engineering_in 0x05) 45 (Some (engineering_report_in CalibrationDone), []) ∷ []) (numbers 1 0 0 0 0)
     -- a stray byte, a broken start and the stray byte that broke it, a frame that decodes and one that does not: each
     -- counter goes on past 2 to the power of 32, and stays at its largest number
     ∷ row (counting 4294967296) each each_done (numbers 4294967297 4294967297 4294967299 4294967297 0)

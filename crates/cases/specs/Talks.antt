@@ -2,7 +2,7 @@
 -- are one event: what is answered, and where it leads.
 --   ack w on       the module's acknowledgement of the word w, with `ok` on or off
 --   report         a report that comes between
---   mixed          a report made by hand, with the acknowledgement of `EnableConfig` beside it
+--   unanswered     the answer of a feed by which no frame ended
 --   number_only k   "returned with the answer's other fields 0"
 --   wrote n        nothing is refused, and n bytes are written
 --   restart_frame, reset_frame, mac_frame   the frames of `Restart`, `FactoryReset` and `ReadMac`
@@ -10,11 +10,10 @@
 --   others         the commands but `EnableConfig`, `EndConfig` and `Restart`
 --   plain          these and `Restart`
 --   talks          the rows
-use Rattle.std.specs.Prelude.{List, [], ◌∷◌, ◌++◌, map, Bool, true, false, cond, ℕ, length}
+use Rattle.std.specs.Prelude.{List, [], ◌∷◌, ◌++◌, map, Bool, true, false, cond, ℕ, length, Some, None}
 use Rattle.refusal.specs.Refusal.{Returned}
 use Rattle.writer.specs.Written.{written}
-use Rattle.report.specs.Report.{no_report}
-use Rattle.frame.specs.declared.FrameKind.TheVariants as Is
+use Rattle.frame.specs.declared.Frame.TheVariants as Is
 use Rattle.command.specs.declared.setting.Baud.TheVariants.{B115200}
 use Rattle.command.specs.declared.setting.Gate.TheVariants.{All}
 use Rattle.command.specs.Command.{command_frame}
@@ -31,21 +30,14 @@ use Rattle.cases.specs.Runs.{b_report}
 use Rattle.cases.specs.Commands.{buffer, enable_frame, end_frame}
 
 abbrev ack : ℕ → Bool → Event
-ack w on = frame (record {
-  kind = Is.Ack;
-  report = no_report;
-  ack = record { word = w; ok = on; status = cond on 0 1; payload = record { start = 4; len = 0 } };
-})
+ack w on =
+    frame (Some (Is.Ack (record { word = w; ok = on; status = cond on 0 1; payload = record { start = 4; len = 0 } })))
 
 abbrev report : Event
-report = frame b_report
+report = frame (Some b_report)
 
-abbrev mixed : Event
-mixed = frame (record {
-  kind = Is.Report;
-  report = b_report.report;
-  ack = record { word = 0x00FF; ok = true; status = 0; payload = record { start = 4; len = 0 } };
-})
+abbrev unanswered : Event
+unanswered = frame None
 
 abbrev number_only : ℕ → Returned ℕ
 number_only k = record { number = k; needed = 0; value = 0 }
@@ -124,7 +116,7 @@ singles =
     ∷ passing Closed report
     ∷ passing Open report
     ∷ passing Opening report
-    ∷ passing Opening mixed
+    ∷ passing Opening unanswered
     ∷ passing Closing report
     -- "The station may give up a wait, which closes the session; giving up with no wait on changes nothing"
     ∷ row Opening give_up gave_up Closed
