@@ -1,8 +1,8 @@
 // Three targets: TARGETS as numbers of a line, and TARGETS VALUE in an argument.
 use ld2450_parser::{TARGETS, Target};
 use replay_io::argument::{flag_at, rest, u16_at};
-use replay_io::line;
 use replay_io::line::Text;
+use std::array;
 
 // Bytes of a target's value: whether it is present, then four numbers of two bytes.
 const ENTRY_LEN: usize = 9;
@@ -10,29 +10,20 @@ const ENTRY_LEN: usize = 9;
 // Bytes of the value of three targets.
 pub const VALUE_LEN: usize = TARGETS * ENTRY_LEN;
 
-// Puts three targets.
-pub fn put(out: &mut Text, taken: usize, targets: [Target; TARGETS]) -> usize {
-    let n = target(out, taken, targets[0]);
-    let n = target(out, n, targets[1]);
-    target(out, n, targets[2])
-}
-
-// Puts one target: whether it is present, then its fields.
-fn target(out: &mut Text, taken: usize, t: Target) -> usize {
-    let n = line::number(out, taken, t.present as u64);
-    let n = line::signed(out, n, t.x);
-    let n = line::signed(out, n, t.y);
-    let n = line::signed(out, n, t.speed);
-    line::number(out, n, t.resolution as u64)
+// Puts three targets, each as whether it is present, then its fields.
+pub fn put(out: &mut Text, targets: [Target; TARGETS]) {
+    for target in targets {
+        out.number(target.present);
+        out.signed(target.x);
+        out.signed(target.y);
+        out.signed(target.speed);
+        out.number(target.resolution);
+    }
 }
 
 // Reads the three targets in a value.
 pub fn targets_in(value: &[u8]) -> [Target; TARGETS] {
-    [
-        target_in(value),
-        target_in(rest(value, ENTRY_LEN)),
-        target_in(rest(value, 2 * ENTRY_LEN)),
-    ]
+    array::from_fn(|i| target_in(rest(value, i * ENTRY_LEN)))
 }
 
 // Reads the target in its nine bytes.
@@ -48,9 +39,5 @@ fn target_in(value: &[u8]) -> Target {
 
 // Reads the two-byte number in two's complement: with the top bit set it is below 0, and counts down from -1.
 fn i16_at(value: &[u8], at: usize) -> i16 {
-    let bits = u16_at(value, at);
-    if bits < 0x8000 {
-        return bits as i16;
-    }
-    -1 - (0xFFFF - bits) as i16
+    u16_at(value, at).cast_signed()
 }
