@@ -1,11 +1,11 @@
 -- The tests of counts, and what they mean: a count is within its bounds, and the entries after it are 0.
-use mathlib.Core.Path.{◌≡◌, refl, ◌∙◌}
+use mathlib.Core.Path.{◌≡◌, refl}
 use mathlib.Core.List.{List}
 use mathlib.Core.Bool.{Bool, true, false, cond, ◌&&◌, and-eq-true_iff}
-use Prim.Native.Nat.{ℕ, ◌≤◌, ◌<◌}
+use Prim.Native.Nat.{ℕ, ◌≤◌}
 use lib.Dec.{leb}
 use lib.ListN.{drop}
-use borrow.Author.Tests.{le-leb, lt-leb, leb-true}
+use borrow.Author.Tests.{le-leb, leb-true}
 use Rattle.engineering.specs.declared.Engineering.{Engineering}
 use Rattle.report.specs.declared.Report.{Report}
 use Rattle.report_writer.specs.Writable.{all_zero, counted, within, writable}
@@ -16,18 +16,6 @@ pub record Counted (a b n : ℕ) (s : List ℕ) : Type 0 where
   pub after : all_zero (drop n s) ≡ true
 
 module _ (a b n : ℕ) (s : List ℕ) where
-  pub counted_below : n < a → counted a b n s ≡ false
-  unfolding counted
-  counted_below h = rw (lt-leb a n h)
-
-  pub counted_above : a ≤ n → b < n → counted a b n s ≡ false
-  unfolding counted
-  counted_above h k = rw (le-leb a n h, lt-leb n b k)
-
-  pub counted_zeros : a ≤ n → n ≤ b → counted a b n s ≡ all_zero (drop n s)
-  unfolding counted
-  counted_zeros h k = rw (le-leb a n h, le-leb n b k)
-
   counted_sound : counted a b n s ≡ true → Counted a b n s
   unfolding counted
   counted_sound e =
@@ -36,7 +24,8 @@ module _ (a b n : ℕ) (s : List ℕ) where
       record { least = leb-true a n x.0; most = leb-true n b y.0; after = y.1 }
 
   counted_complete : Counted a b n s → counted a b n s ≡ true
-  counted_complete h = counted_zeros h.least h.most ∙ h.after
+  unfolding counted
+  counted_complete h = rw (le-leb a n h.least, le-leb n b h.most) h.after
 
 pub record Within (a b k : ℕ) (e : Engineering) : Type 0 where
   pub moving : Counted a b e.moving_gates e.moving_energy
@@ -44,21 +33,6 @@ pub record Within (a b k : ℕ) (e : Engineering) : Type 0 where
   pub reserved : Counted 0 k e.extra_len e.extra
 
 module _ (a b k : ℕ) (e : Engineering) where
-  pub within_first : counted a b e.moving_gates e.moving_energy ≡ false → within a b k e ≡ false
-  unfolding within
-  within_first h = rw h
-
-  pub within_second : counted a b e.moving_gates e.moving_energy ≡ true
-      → counted a b e.stationary_gates e.stationary_energy ≡ false → within a b k e ≡ false
-  unfolding within
-  within_second h i = rw (h, i)
-
-  pub within_third : counted a b e.moving_gates e.moving_energy ≡ true
-      → counted a b e.stationary_gates e.stationary_energy ≡ true
-      → within a b k e ≡ counted 0 k e.extra_len e.extra
-  unfolding within
-  within_third h i = rw (h, i)
-
   pub within_sound : within a b k e ≡ true → Within a b k e
   unfolding within
   within_sound h =
@@ -71,9 +45,9 @@ module _ (a b k : ℕ) (e : Engineering) where
       }
 
   pub within_complete : Within a b k e → within a b k e ≡ true
+  unfolding within
   within_complete h =
-      within_third (counted_complete a b _ _ h.moving) (counted_complete a b _ _ h.stationary)
-      ∙ counted_complete 0 k _ _ h.reserved
+      rw (counted_complete a b _ _ h.moving, counted_complete a b _ _ h.stationary) (counted_complete 0 k _ _ h.reserved)
 
 -- A report that can be written: its counts are within the bounds for its flag, on or off.
 pub data Writable (r : Report) : Type 0 where

@@ -1,6 +1,4 @@
 -- Laws about the definitions, which the proofs of this crate cite.
--- Entries that are all 0.
-pub mod Zeros
 -- The tests of counts, and which reports can be written.
 pub mod Counts
 -- Bounds from the types of a report's fields.

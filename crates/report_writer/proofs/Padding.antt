@@ -14,7 +14,6 @@ use Rattle.report_writer.proofs.Counts.{Counted}
 use Rattle.report_writer.proofs.Typed.{Held}
 
 zeros_sound : (s : List ℕ) → all_zero s ≡ true → s ≡ replicate (length s) 0
-unfolding all_zero
 zeros_sound [] e = refl
 zeros_sound (b ∷ s) e =
     let h = (and-eq-true_iff (eqb b 0) (all_zero s)).0 e in
@@ -23,7 +22,6 @@ zeros_sound (b ∷ s) e =
     cc
 
 zeros_replicate : (n : ℕ) → all_zero (replicate n 0) ≡ true
-unfolding all_zero
 zeros_replicate zero = refl
 zeros_replicate (suc n) = zeros_replicate n
 

@@ -22,13 +22,14 @@ use Rattle.report.specs.LayoutCheck.{report_checks}
 use Rattle.report.specs.Report.{report_by, report_of}
 use Rattle.report.specs.declared.Report.{Report}
 use Rattle.frame.specs.Envelope.{announced, data_of}
+use Rattle.frame.specs.declared.Frame.TheVariants as Is
 use Rattle.frame.proofs.FrameRead.{FrameRead, read_sound, read_complete}
 use Rattle.writer.specs.RoundTrip.{Written}
 use Rattle.writer.proofs.RoundTrip.{Agreed}
 use Rattle.report_writer.specs.Data.{type_of, basic_bytes, engineering_block, block_of, front_of, report_data}
 use Rattle.report_writer.specs.Data.{report_frame, trailer}
-use Rattle.report_writer.specs.Writable.{all_zero, counted, within, writable}
-use Rattle.report_writer.specs.RoundTrip.{holding, ReadAs, reports}
+use Rattle.report_writer.specs.Writable.{counted, within, writable}
+use Rattle.report_writer.specs.RoundTrip.{ReadAs, reports}
 use Rattle.report_writer.proofs.Basics.{basic_back, basic_again}
 use Rattle.report_writer.proofs.Blocks.{none_back, block_fits_lem, block_back, block_reserved}
 use Rattle.report_writer.proofs.Blocks.{block_within, block_again}
@@ -89,7 +90,7 @@ module _ (c : List ℕ) (t : ℕ) (b : List ℕ) (s : length (reserved b) ≤ 8)
   read = report_by (basic_of c) t b
 
   view_writable : View t b → writable read ≡ true
-  unfolding all_zero counted within engineering_of
+  unfolding counted within engineering_of
   view_writable (plain e q) = rw e
   view_writable (full e h) = rw e (within_complete 1 9 8 (engineering_of b) (block_within b h s))
 
@@ -122,11 +123,11 @@ module _ (r : Report) (f : List ℕ) (q : ReadAs f r) (w : reports.Within f) whe
   abbrev d : List ℕ
   d = data_of f
 
-  held : FrameRead f Family.Report (holding r)
-  held = read_sound f Family.Report (holding r) refl q
+  held : FrameRead f Family.Report (Is.Report r)
+  held = read_sound f Family.Report (Is.Report r) refl q
 
   report_is : report_of d ≡ r
-  report_is = ap (λ x. x.report) held.value
+  report_is = cc held.value
 
   read_writable : writable r ≡ true
   read_writable = rw (← report_is) (data_writable d (passes_shape d held.passes) (omega arith))

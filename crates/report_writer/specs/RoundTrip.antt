@@ -1,29 +1,23 @@
 -- Reports, written and read. Refusal 6 is for "a value that the reader can't give"; request 3: "writing again gives
 -- equal bytes for states 0 to 6 with at most eight reserved bytes".
---   holding r      the frame that holds the report r
 --   ReadAs f r     `Frame::parse` gives the report r for the string f
 --   reserved_in f   the reserved bytes in the frame f, none without an engineering block
 --   state_byte f    the state byte of the frame f
 --   reports        the writer of reports and the reader of frames
-use Rattle.std.specs.Prelude.{◌≡◌, List, ℕ, ◌≤◌, length}
-use Rattle.refusal.specs.declared.Outcome.TheVariants as Outcome
+use Rattle.std.specs.Prelude.{◌≡◌, List, ℕ, ◌≤◌, length, Ok}
 use Rattle.writer.specs.RoundTrip.{Codec}
 use Rattle.target_state.specs.State.{state_max}
 use Rattle.engineering.specs.Block.{reserved}
 use Rattle.report.specs.Layout.{state_in, block}
 use Rattle.report.specs.declared.Report.{Report}
 use Rattle.frame.specs.Envelope.{data_of}
-use Rattle.frame.specs.Frame.{no_ack, parsed_frame}
-use Rattle.frame.specs.declared.Frame.{Frame}
-use Rattle.frame.specs.declared.FrameKind.TheVariants as Is
+use Rattle.frame.specs.Frame.{parsed_frame}
+use Rattle.frame.specs.declared.Frame.TheVariants as Is
 use Rattle.report_writer.specs.Data.{report_frame}
 use Rattle.report_writer.specs.Writable.{unrepresentable}
 
-abbrev pub holding : Report → Frame
-holding r = record { kind = Is.Report; report = r; ack = no_ack }
-
 abbrev pub ReadAs : List ℕ → Report → Type 0
-ReadAs f r = parsed_frame f ≡ record { outcome = Outcome.Ok; frame = holding r }
+ReadAs f r = parsed_frame f ≡ Ok (Is.Report r)
 
 abbrev pub reserved_in : List ℕ → List ℕ
 reserved_in f = reserved (block (data_of f))

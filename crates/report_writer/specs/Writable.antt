@@ -5,17 +5,17 @@
 --   writable r          with the flag of r on, its gate counts are 1 to 9, `extra_len` is at most 8, and entries past
 --                       these counts are 0; with it off, every count and entry is 0
 --   unrepresentable r   refusal 6, unless the report r can be written
-use Rattle.std.specs.Prelude.{List, [], ◌∷◌, Bool, true, cond, ◌&&◌, ℕ, leb, eqb, drop}
-use Rattle.std.proofs.Math.Option.{Option}
+use Rattle.std.specs.Prelude.{List, Bool, cond, ◌&&◌, ℕ, leb, eqb, drop}
+use Rattle.std.specs.List.{list_all}
+use Rattle.std.specs.declared.option.Option.{Option}
 use Rattle.refusal.specs.declared.Error.{Error}
 use Rattle.refusal.specs.declared.Error.TheVariants.{Unrepresentable}
 use Rattle.writer.specs.Written.{unless}
 use Rattle.engineering.specs.declared.Engineering.{Engineering}
 use Rattle.report.specs.declared.Report.{Report}
 
-unfoldable pub all_zero : List ℕ → Bool
-all_zero [] = true
-all_zero (b ∷ s) = eqb b 0 && all_zero s
+abbrev pub all_zero : List ℕ → Bool
+all_zero s = list_all (λ b. eqb b 0) s
 
 unfoldable pub counted : ℕ → ℕ → ℕ → List ℕ → Bool
 counted a b n s = leb a n && (leb n b && all_zero (drop n s))

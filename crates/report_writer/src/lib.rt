@@ -19,12 +19,12 @@ use report::Report;
 use report_data::{MAX_REPORT, encode_data};
 use wire::Kind;
 use writable::is_writable;
-use writer::{WriteResult, put_frame};
+use writer::put_frame;
 
 // Writes the report's frame into the front of `out`, and returns the number of bytes written. Refuses with 6 a report
 // that the reader cannot give, or one with more than eight reserved bytes; then with 4 a buffer shorter than the frame.
 // Bytes after the frame stay, and a refused call changes none.
-pub fn write_report(out: &mut [u8], report: Report) -> WriteResult
+pub fn write_report(out: &mut [u8], report: Report) -> Result<usize, Error>
     ensures told { result ≡ write_result (unrepresentable report) (report_frame report) (length out.old) }
     ensures left { out.new ≡ buffer_after (unrepresentable report) (report_frame report)
         out.old }
@@ -33,9 +33,9 @@ pub fn write_report(out: &mut [u8], report: Report) -> WriteResult
     ensures round { RoundTrip reports report }
 {
     if !is_writable(report) {
-        return WriteResult::Err(Error::Unrepresentable);
+        return Err(Error::Unrepresentable);
     }
-    let mut data: [u8; MAX_REPORT] = [0; MAX_REPORT];
+    let mut data = [0; MAX_REPORT];
     let len = encode_data(&mut data, report);
     put_frame(out, Kind::Report, &data[..len])
 }

@@ -20,17 +20,17 @@ fn data_type(has_engineering: bool) -> u8
 }
 
 // Returns the bytes before the engineering block: type, head byte, nine basic bytes.
+#[tactic(auto, unfolding(crate::specs::Data::front_of))]
 fn front(report: Report) -> [u8; FRONT_LEN]
     ensures made { result ≡ front_of report }
 {
-    let state = report.state;
     let moving = u16_bytes(report.moving_distance_cm);
     let stationary = u16_bytes(report.stationary_distance_cm);
     let detection = u16_bytes(report.detection_distance_cm);
     [
         data_type(report.has_engineering),
         REPORT_HEAD,
-        state.to_byte(),
+        report.state.to_byte(),
         moving[0],
         moving[1],
         report.moving_energy,
@@ -65,14 +65,14 @@ fn put_block(data: &mut [u8], report: Report) -> usize
         return FRONT_LEN;
     }
     let e = report.engineering;
-    let counts = [e.moving_gates - 1, e.stationary_gates - 1];
-    put(data, FRONT_LEN, &counts);
-    let moving = e.moving_energy;
-    let moving_end = put_first(data, FRONT_LEN + 2, &moving, e.moving_gates);
-    let stationary = e.stationary_energy;
-    let stationary_end = put_first(data, moving_end, &stationary, e.stationary_gates);
-    let reserved = e.extra;
-    put_first(data, stationary_end, &reserved, e.extra_len)
+    put(
+        data,
+        FRONT_LEN,
+        &[e.moving_gates - 1, e.stationary_gates - 1],
+    );
+    let moving_end = put_first(data, FRONT_LEN + 2, &e.moving_energy, e.moving_gates);
+    let stationary_end = put_first(data, moving_end, &e.stationary_energy, e.stationary_gates);
+    put_first(data, stationary_end, &e.extra, e.extra_len)
 }
 
 // Encodes the report as its data at the front of an array, and returns how many bytes they are.
@@ -82,10 +82,8 @@ pub(crate) fn encode_data(data: &mut [u8], report: Report) -> usize
     ensures told { result ≡ length (report_data report) }
     ensures left { take result «data».new ≡ report_data report }
 {
-    let front = front(report);
-    put(data, 0, &front);
+    put(data, 0, &front(report));
     let end = put_block(data, report);
-    let trailer = REPORT_TRAILER;
-    put(data, end, &trailer);
+    put(data, end, &REPORT_TRAILER);
     end + 2
 }

@@ -16,43 +16,25 @@ const MAX_RESERVED: u8 = 8;
 fn zero_from(s: &[u8], from: usize) -> bool
     ensures tested { result ≡ all_zero (drop from s.now) }
 {
-    let mut i = from;
-    while i < s.len() {
-        if s[i] != 0 {
-            return false;
-        }
-        i += 1;
-    }
-    true
+    s.iter().skip(from).all(|x| *x == 0)
 }
 
 // Tests whether the count is within two bounds, and the entries after it are all 0.
+#[tactic(auto, unfolding(crate::specs::Writable::counted))]
 fn is_counted(s: &[u8], count: u8, least: u8, most: u8) -> bool
     ensures tested { result ≡ counted least most count s.now }
 {
-    if count < least {
-        return false;
-    }
-    if most < count {
-        return false;
-    }
-    zero_from(s, count as usize)
+    (least..=most).contains(&count) && zero_from(s, count as usize)
 }
 
 // Tests whether each count of energies is `least` to `gates`, that of reserved bytes at most `extra`, and the rest 0.
+#[tactic(auto, unfolding(crate::specs::Writable::within))]
 fn is_within(e: Engineering, least: u8, gates: u8, extra: u8) -> bool
     ensures tested { result ≡ within least gates extra e }
 {
-    let m = e.moving_energy;
-    if !is_counted(&m, e.moving_gates, least, gates) {
-        return false;
-    }
-    let s = e.stationary_energy;
-    if !is_counted(&s, e.stationary_gates, least, gates) {
-        return false;
-    }
-    let x = e.extra;
-    is_counted(&x, e.extra_len, 0, extra)
+    is_counted(&e.moving_energy, e.moving_gates, least, gates)
+        && is_counted(&e.stationary_energy, e.stationary_gates, least, gates)
+        && is_counted(&e.extra, e.extra_len, 0, extra)
 }
 
 // Tests whether the reader can give the report, with at most eight reserved bytes.

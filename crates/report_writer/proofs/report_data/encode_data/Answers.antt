@@ -23,6 +23,6 @@ returns c =
     let short : length (block_of r) ≤ 28 = block_short r (report_typed r _ c.well_formed.1.0)
     (writable_sound r c.requires.good) in
     let told = c.put_block-end.ensures in
-    let all = data_put r _ c.args.«data».now _ _ _ _ (omega arith) c.front-front.ensures.made c.put.ensures.left
+    let all = data_put r _ c.args.«data».now _ _ _ _ (omega arith) c.front.ensures.made c.put.ensures.left
     told.left told.told c.put-2.ensures.left in
     record { told = omega (arith, all.ends); left = put_taken all }
