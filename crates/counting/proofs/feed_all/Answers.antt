@@ -1,6 +1,6 @@
--- `counting::feed_all` meets its contract. The loop's invariant is `Rest`, of the parser made of the parts: the
--- remaining bytes, fed one by one from here, leave what all of them leave. The measure is the number of bytes left. The
--- parser's type says what demand 3 asks of it.
+-- `counting::feed_all` meets its contract. The loop's invariant is `Rest`: the remaining bytes, fed one by one from here,
+-- leave what all of them leave. The measure is the number of bytes left. The parser's type says what demand 3 asks of
+-- it.
 use Prim.Native.Nat.{◌<◌, ◌^◌}
 use borrow.Author.Rules.{rules}
 use native.Mathlib.Omega.{arith}
@@ -8,7 +8,7 @@ use lib.ListN.{length}
 use Rattle.wire.specs.Bytes.{Bytes}
 use Rattle.wire.proofs.Bytes.{bytes_at}
 use Rattle.parser.proofs.Known.{known_any}
-use Rattle.counting.proofs.Rest.{rest_start, rest_end, rest_parts}
+use Rattle.counting.proofs.Rest.{rest_start, rest_end, rest_further}
 use Rattle.counting.proofs.Line.{fed_all}
 use Rattle.counting.proofs.feed_all.Goals as goal
 
@@ -21,23 +21,23 @@ loop-i-init c = rest_start _ _ (record {
 -- After the slice feed: the parser there was fed the remaining bytes, and the invariant holds again.
 pub overflow_add-i : goal.overflow_add-i
 overflow_add-i c =
-    let f = rest_parts _ _ _ _ _ c.loop-i.i c.loop-i.invariant c.loop-i-test.true
-    (λ j. omega (arith, c.type_inv.bytes j)) _ _ c.feed_slice_at-moved.ensures.moved in
+    let f = rest_further _ _ _ _ c.loop-i.invariant c.loop-i-test.true (λ j. omega (arith, c.type_inv.bytes j)) _ _
+    c.feed_slice-taken.ensures.fed in
     let room : length c.args.bytes.now < 2 ^ 64 = search rules in
     let inside = f.1.inside in
     record { fits = omega arith }
 
 pub loop-i-smaller : goal.loop-i-smaller
 loop-i-smaller c =
-    let f = rest_parts _ _ _ _ _ c.loop-i.i c.loop-i.invariant c.loop-i-test.true
-    (λ j. omega (arith, c.type_inv.bytes j)) _ _ c.feed_slice_at-moved.ensures.moved in
+    let f = rest_further _ _ _ _ c.loop-i.invariant c.loop-i-test.true (λ j. omega (arith, c.type_inv.bytes j)) _ _
+    c.feed_slice-taken.ensures.fed in
     let inside = f.1.inside in
     let some = f.0 in
     omega arith
 
 pub loop-i-preserved : goal.loop-i-preserved
-loop-i-preserved c = (rest_parts _ _ _ _ _ c.loop-i.i c.loop-i.invariant c.loop-i-test.true
-    (λ j. omega (arith, c.type_inv.bytes j)) _ _ c.feed_slice_at-moved.ensures.moved).1
+loop-i-preserved c = (rest_further _ _ _ _ c.loop-i.invariant c.loop-i-test.true
+    (λ j. omega (arith, c.type_inv.bytes j)) _ _ c.feed_slice-taken.ensures.fed).1
 
 pub returns : goal.returns
 returns c =
