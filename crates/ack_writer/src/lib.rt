@@ -50,6 +50,7 @@ pub fn write_ack(
     if !writable(word, ok, status, payload) {
         return Err(Error::Unrepresentable);
     }
+    // The data stand in an array with their length beside it: the link's crates have no heap.
     let mut data = [0; MAX_DATA];
     put_u16(&mut data, 0, word + ACK_BIT);
     put_u16(&mut data, 2, status);

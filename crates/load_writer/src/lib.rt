@@ -42,6 +42,7 @@ fn fill(out: &mut [u8], seed: u32) -> usize
     ensures left { out.new ≡ written out.old (laid_down seed (length out.old)) }
 {
     let mut draws = Draws::new(seed);
+    // A place is what the last put answered, not a count, so neither a `for` nor a chain is plainer.
     let mut at = 0;
     while let Some(end) = put_piece(out, at, &mut draws) {
         at = end;

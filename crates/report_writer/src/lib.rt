@@ -35,6 +35,7 @@ pub fn write_report(out: &mut [u8], report: Report) -> Result<usize, Error>
     if !is_writable(report) {
         return Err(Error::Unrepresentable);
     }
+    // The data stand in an array with their length beside it: the link's crates have no heap.
     let mut data = [0; MAX_REPORT];
     let len = encode_data(&mut data, report);
     put_frame(out, Kind::Report, &data[..len])
