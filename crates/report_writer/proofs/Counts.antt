@@ -47,7 +47,8 @@ module _ (a b k : ℕ) (e : Engineering) where
   pub within_complete : Within a b k e → within a b k e ≡ true
   unfolding within
   within_complete h =
-      rw (counted_complete a b _ _ h.moving, counted_complete a b _ _ h.stationary) (counted_complete 0 k _ _ h.reserved)
+      rw (counted_complete a b _ _ h.moving, counted_complete a b _ _ h.stationary)
+      (counted_complete 0 k _ _ h.reserved)
 
 -- A report that can be written: its counts are within the bounds for its flag, on or off.
 pub data Writable (r : Report) : Type 0 where
