@@ -22,17 +22,12 @@ impl Envelope {
     pub fn open(bytes: &[u8]) -> Result<Envelope, Check>
         ensures opened { result ≡ envelope bytes.now }
     {
-        if bytes.len() < 4 {
-            return Err(Check::F1);
-        }
-        let kind = family_of(&bytes[..4]).ok_or(Check::F1)?;
+        let head = bytes.get(..4).ok_or(Check::F1)?;
+        let kind = family_of(head).ok_or(Check::F1)?;
         let len = le16(bytes, 4).ok_or(Check::F2)?;
         let end = DATA_START + len as usize;
-        if bytes.len() < end {
-            return Err(Check::F3);
-        }
-        let tail = tail_of(kind);
-        if !bytes_eq(&bytes[end..], &tail) {
+        let tail = bytes.get(end..).ok_or(Check::F3)?;
+        if !bytes_eq(tail, &tail_of(kind)) {
             return Err(Check::F4);
         }
         Ok(Envelope { kind, end })
