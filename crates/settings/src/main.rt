@@ -6,119 +6,77 @@
 #![tactic(auto)]
 
 use counting::read_full;
-use ld2410::{Command, Gate, Parser, ReceiveResult, SendResult, Session};
-use std::io;
+use ld2410::{Command, Gate, Parser, ReceiveResult, Session};
+use std::{io, slice};
+use text::Hex;
 
 mod text;
 
-// The state of the conversation: the session, the parser, and how many of the module's bytes are taken.
-#[derive(Clone, Copy)]
-struct Turn {
+// The commands of a conversation, in turn.
+const COMMANDS: [Command; 5] = [
+    Command::EnableConfig,
+    Command::ReadParameters,
+    Command::SetMaxGates {
+        moving: 8,
+        stationary: 8,
+        no_one_secs: 5,
+    },
+    Command::SetSensitivity {
+        gate: Gate::Index(3),
+        moving: 40,
+        stationary: 40,
+    },
+    Command::EndConfig,
+];
+
+// The station: its parser and its session, and the module's bytes that it has not taken.
+#[derive(Drop)]
+struct Station<'a> {
     parser: Parser,
     session: Session,
-    taken: usize,
+    bytes: slice::Iter<'a, u8>,
 }
 
-// Returns the command of a step of the conversation.
-fn command(step: u8) -> Command {
-    match step {
-        0 => Command::EnableConfig,
-        1 => Command::ReadParameters,
-        2 => Command::SetMaxGates {
-            moving: 8,
-            stationary: 8,
-            no_one_secs: 5,
-        },
-        3 => Command::SetSensitivity {
-            gate: Gate::Index(3),
-            moving: 40,
-            stationary: 40,
-        },
-        _ => Command::EndConfig,
-    }
-}
-
-// Sends a command, and hands over the frames that come, up to the one that ends the wait.
-fn exchange(rt: &impl Print, at: Turn, command: Command, bytes: &[u8]) -> io::Result<Turn> {
-    let session = at.session;
-    let mut out = [0u8; 30];
-    let sent = session.send(command, &mut out);
-    let answer = sent.answer;
-    match answer {
-        SendResult::Ok(n) => {
-            text::sent(rt, &out, n)?;
-            let parser = at.parser;
-            let session = sent.session;
-            listen(rt, parser, session, bytes, at.taken)
+impl Station<'_> {
+    // Holds a conversation: sends each command in turn.
+    fn converse(&mut self, rt: &impl Print) -> io::Result<()> {
+        for command in COMMANDS {
+            self.exchange(rt, command)?;
         }
-        SendResult::Err(e) => {
-            text::refused(rt, e.number())?;
-            let parser = at.parser;
-            let session = sent.session;
-            Ok(Turn {
-                parser,
-                session,
-                taken: at.taken,
-            })
-        }
+        Ok(())
     }
-}
 
-// Feeds what the module sends, from a place on, and hands over each frame as it comes, until one ends the wait. If no
-// more comes, it gives up the wait.
-fn listen(
-    rt: &impl Print,
-    parser: Parser,
-    session: Session,
-    bytes: &[u8],
-    start: usize,
-) -> io::Result<Turn> {
-    let mut parser = parser;
-    let mut session = session;
-    let mut taken = start;
-    while taken < bytes.len() {
-        let fed = parser.fed(bytes[taken]);
-        parser = fed.parser;
-        taken += 1;
-        let frame = fed.answer;
-        let received = session.receive(frame);
-        let after = received.session;
-        session = after;
-        let answer = received.answer;
-        match answer {
-            ReceiveResult::Passed => {
-                let kind = frame.kind;
-                text::passed(rt, kind)?;
+    // Sends a command, and hands over the frames that come, up to the one that ends the wait.
+    fn exchange(&mut self, rt: &impl Print, command: Command) -> io::Result<()> {
+        let mut out = [0u8; 30];
+        let sent = self.session.send(command, &mut out);
+        self.session = sent.session;
+        match sent.answer {
+            Ok(n) => {
+                println!(rt; "sent{}", Hex(&out[..n]))?;
+                self.listen(rt)
             }
-            ReceiveResult::Ended(ok) => {
-                let ack = frame.ack;
-                let buf = parser.buf;
-                text::ended(rt, ok, ack, &buf)?;
-                return Ok(Turn {
-                    parser,
-                    session,
-                    taken,
-                });
-            }
+            Err(e) => println!(rt; "refused {}", e.number()),
         }
     }
-    text::given_up(rt)?;
-    Ok(Turn {
-        parser,
-        session: session.give_up(),
-        taken,
-    })
-}
 
-// Holds the conversation: sends each command in turn.
-fn converse(rt: &impl Print, start: Turn, bytes: &[u8]) -> io::Result<Turn> {
-    let mut at = start;
-    let mut step = 0;
-    while step < 5 {
-        at = exchange(rt, at, command(step), bytes)?;
-        step += 1;
+    // Feeds what the module sends, and hands over each frame as it comes, until one ends the wait. If no more comes, it
+    // gives up the wait.
+    fn listen(&mut self, rt: &impl Print) -> io::Result<()> {
+        for byte in self.bytes.by_ref() {
+            let Some(frame) = self.parser.feed(*byte) else {
+                continue;
+            };
+            let received = self.session.receive(Some(frame));
+            self.session = received.session;
+            if let ReceiveResult::Ended(ok) = received.answer {
+                return text::ended(rt, ok, frame, &self.parser.buf);
+            }
+            text::passed(rt, frame)?;
+        }
+        self.session = self.session.give_up();
+        println!(rt; "given up")
     }
-    Ok(at)
 }
 
 // Holds three conversations. In the first the module answers as the documents print it, with two reports and two bytes
@@ -127,17 +85,13 @@ fn converse(rt: &impl Print, start: Turn, bytes: &[u8]) -> io::Result<Turn> {
 fn main(rt: HostRuntime) -> io::Result<()> {
     let mut input = [0u8; 4096];
     let n = read_full(&mut rt.stdin(), &mut input);
-    let bytes = &input[..n];
-    let first = converse(
-        &rt,
-        Turn {
-            parser: Parser::new(),
-            session: Session::new(),
-            taken: 0,
-        },
-        bytes,
-    )?;
-    let second = converse(&rt, first, bytes)?;
-    converse(&rt, second, bytes)?;
+    let mut station = Station {
+        parser: Parser::new(),
+        session: Session::new(),
+        bytes: input[..n].iter(),
+    };
+    for _ in 0..3 {
+        station.converse(&rt)?;
+    }
     Ok(())
 }
