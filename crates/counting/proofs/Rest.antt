@@ -13,7 +13,8 @@ use Rattle.feed.specs.declared.feeding.Taken.{Taken}
 use Rattle.parser.specs.Feed.{feed_slice_of}
 use Rattle.parser.specs.Claims.{left}
 use Rattle.parser.specs.declared.Parser.{Parser}
-use Rattle.parser.specs.declared.FedSlice.{FedSlice}
+use Rattle.parser.specs.declared.Fed.{Fed}
+use Rattle.feed.specs.declared.feeding.Taken.{Taken}
 use Rattle.parser.proofs.Feeding.{Valid}
 use Rattle.counting.proofs.Slices.{First, slice_first}
 use Rattle.counting.proofs.Appended.{left_split}
@@ -32,7 +33,7 @@ module _ (p q : Parser) (bs : List ℕ) (i : ℕ) (h : Rest p q bs i) where
 
   -- A slice feed of the remaining bytes takes at least one, and the invariant holds after it.
   module _ (inner : i < length bs) (bytes : (j : ℕ) → get_or bs j 0 < 256) where
-    abbrev fed : FedSlice
+    abbrev fed : Fed Taken
     fed = feed_slice_of link_limit q (drop i bs)
 
     taken : First q (drop i bs) fed

@@ -25,7 +25,7 @@ pub use feed::{
     Moved, MovedSlice, Taken, feed_at, feed_slice_at, table_feed_at, table_feed_slice_at,
 };
 pub use frame::Frame;
-pub use parser::{Fed, FedSlice, Parser};
+pub use parser::{Fed, Parser};
 pub use scan::{Scan, State, Stats};
 
 // Commands.

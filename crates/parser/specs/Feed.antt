@@ -8,12 +8,14 @@
 -- A scan out of range is handled "as if reset came first". Document 01 leaves two things free: here a byte leaves 0 in
 -- the fields without use in a state, and changes a byte of the buffer only where a data byte is stored.
 use Rattle.std.specs.Prelude.{List, ℕ, replicate}
+use Rattle.std.specs.declared.option.Option.{Option}
 use Rattle.scan.specs.Scan.{hunting, unfinished_by}
 use Rattle.scan.specs.declared.Scan.{Scan}
 use Rattle.scan.specs.declared.stats.Stats.{Stats}
 use Rattle.parser.specs.declared.Parser.{Parser}
 use Rattle.parser.specs.declared.Fed.{Fed}
-use Rattle.parser.specs.declared.FedSlice.{FedSlice}
+use Rattle.feed.specs.declared.feeding.Taken.{Taken}
+use Rattle.frame.specs.declared.Frame.{Frame}
 use Rattle.feed.specs.Moved.{buf_of, moved_of, slice_buf_of, slice_moved_of}
 
 abbrev pub no_stats : Stats
@@ -25,12 +27,12 @@ fresh = record { buf = replicate 64 0; scan = hunting; stats = no_stats }
 abbrev pub put : List ℕ → Scan → Stats → Parser
 put buf c st = record { buf = buf; scan = c; stats = st }
 
-unfoldable pub feed_of : ℕ → Parser → ℕ → Fed
+unfoldable pub feed_of : ℕ → Parser → ℕ → Fed (Option Frame)
 feed_of limit p b =
     let m = moved_of limit p.scan p.stats p.buf b in
     record { parser = put (buf_of limit p.scan p.buf b) m.scan m.stats; answer = m.answer }
 
-unfoldable pub feed_slice_of : ℕ → Parser → List ℕ → FedSlice
+unfoldable pub feed_slice_of : ℕ → Parser → List ℕ → Fed Taken
 feed_slice_of limit p bs =
     let m = slice_moved_of limit p.scan p.stats p.buf bs in
     record { parser = put (slice_buf_of limit p.scan p.stats p.buf bs) m.scan m.stats; answer = m.answer }

@@ -4,7 +4,9 @@ ghost use Rattle.std.specs.Prelude.{◌≡◌};
 ghost use Rattle.stream.specs.Length.{link_limit};
 ghost use Rattle.parser.specs.Feed.{feed_of, feed_slice_of};
 
-use super::{Fed, FedSlice, Parser};
+use super::{Fed, Parser};
+use feed::Taken;
+use frame::Frame;
 
 // What the two engines give back, each with the parser and its counters afterwards.
 #[derive(Clone, Copy)]
@@ -14,7 +16,7 @@ struct Both<T> {
 }
 
 // Feeds one byte to both engines, each on the same parser.
-fn fed_by_both(parser: Parser, byte: u8) -> Both<Fed>
+fn fed_by_both(parser: Parser, byte: u8) -> Both<Fed<Option<Frame>>>
     ensures fed { result.branches ≡ feed_of link_limit parser byte }
     ensures equal { result.tables ≡ result.branches }
 {
@@ -25,7 +27,7 @@ fn fed_by_both(parser: Parser, byte: u8) -> Both<Fed>
 }
 
 // Feeds a slice to both engines, each on the same parser.
-fn fed_slice_by_both(parser: Parser, bytes: &[u8]) -> Both<FedSlice>
+fn fed_slice_by_both(parser: Parser, bytes: &[u8]) -> Both<Fed<Taken>>
     ensures fed { result.branches ≡ feed_slice_of link_limit parser bytes.now }
     ensures equal { result.tables ≡ result.branches }
 {

@@ -5,8 +5,6 @@
 
 #![tactic(auto)]
 
-use feed::Taken;
-use frame::Frame;
 use scan::{Scan, Stats, hunting, unfinished};
 use wire::MAX_FRAME;
 
@@ -28,17 +26,11 @@ pub struct Parser {
     pub stats: Stats,
 }
 
-// A parser handed back, with the answer.
+// A parser handed back, with the answer: that of a byte, or of a slice.
 #[derive(Clone, Copy)]
-pub struct Fed {
+pub struct Fed<A> {
     pub parser: Parser,
-    pub answer: Option<Frame>,
-}
-
-#[derive(Clone, Copy)]
-pub struct FedSlice {
-    pub parser: Parser,
-    pub answer: Taken,
+    pub answer: A,
 }
 
 impl Parser {

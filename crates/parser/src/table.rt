@@ -6,7 +6,7 @@ ghost use Rattle.stream.specs.Length.{link_limit};
 ghost use Rattle.parser.specs.Feed.{feed_of, feed_slice_of};
 ghost use Rattle.parser.specs.Claims.{FromAny};
 
-use super::{Fed, FedSlice, Parser};
+use super::{Fed, Parser};
 use feed::{Tables, Taken};
 use frame::Frame;
 
@@ -30,7 +30,7 @@ impl Parser {
     }
 
     // Feeds as `fed` does, by the table engine.
-    pub fn table_fed(self, byte: u8) -> Fed
+    pub fn table_fed(self, byte: u8) -> Fed<Option<Frame>>
         ensures fed { result ≡ feed_of link_limit self byte }
         ensures any { FromAny self }
     {
@@ -38,7 +38,7 @@ impl Parser {
     }
 
     // Feeds as `fed_slice` does, by the table engine.
-    pub fn table_fed_slice(self, bytes: &[u8]) -> FedSlice
+    pub fn table_fed_slice(self, bytes: &[u8]) -> Fed<Taken>
         ensures fed { result ≡ feed_slice_of link_limit self bytes.now }
         ensures any { FromAny self }
     {

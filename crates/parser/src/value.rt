@@ -5,12 +5,13 @@ ghost use Rattle.stream.specs.Length.{link_limit};
 ghost use Rattle.parser.specs.Feed.{feed_of, feed_slice_of, reset_of};
 ghost use Rattle.parser.specs.Claims.{FromHere, FromAny, Determined, ResetFirst};
 
-use super::{Fed, FedSlice, Parser};
-use feed::{Branches, Engine};
+use super::{Fed, Parser};
+use feed::{Branches, Engine, Taken};
+use frame::Frame;
 
 impl Parser {
     // Feeds one byte by the engine `E`.
-    pub(crate) fn fed_with<E: Engine>(self, byte: u8) -> Fed
+    pub(crate) fn fed_with<E: Engine>(self, byte: u8) -> Fed<Option<Frame>>
         ensures fed { result ≡ feed_of link_limit self byte }
         ensures any { FromAny self }
     {
@@ -23,13 +24,13 @@ impl Parser {
     }
 
     // Feeds a slice by the engine `E`.
-    pub(crate) fn fed_slice_with<E: Engine>(self, bytes: &[u8]) -> FedSlice
+    pub(crate) fn fed_slice_with<E: Engine>(self, bytes: &[u8]) -> Fed<Taken>
         ensures fed { result ≡ feed_slice_of link_limit self bytes.now }
         ensures any { FromAny self }
     {
         let mut lent = self;
         let answer = lent.feed_slice_with::<E>(bytes);
-        FedSlice {
+        Fed {
             parser: lent,
             answer,
         }
@@ -37,7 +38,7 @@ impl Parser {
 
     // Feeds one received byte. The answer is the frame that this byte completed, or no frame. A parser with a field out
     // of range is handled as if reset came first.
-    pub fn fed(self, byte: u8) -> Fed
+    pub fn fed(self, byte: u8) -> Fed<Option<Frame>>
         ensures fed { result ≡ feed_of link_limit self byte }
         ensures any { FromAny self }
     {
@@ -46,7 +47,7 @@ impl Parser {
 
     // Feeds bytes up to and including the end of the first whole frame, decoded or not, else all of them. The answer is
     // how many, and the frame. Call again with the rest.
-    pub fn fed_slice(self, bytes: &[u8]) -> FedSlice
+    pub fn fed_slice(self, bytes: &[u8]) -> Fed<Taken>
         ensures fed { result ≡ feed_slice_of link_limit self bytes.now }
         ensures any { FromAny self }
     {
