@@ -14,7 +14,6 @@ use Rattle.parser.specs.Feed.{feed_slice_of}
 use Rattle.parser.specs.Claims.{left}
 use Rattle.parser.specs.declared.Parser.{Parser}
 use Rattle.parser.specs.declared.Fed.{Fed}
-use Rattle.feed.specs.declared.feeding.Taken.{Taken}
 use Rattle.parser.proofs.Feeding.{Valid}
 use Rattle.counting.proofs.Slices.{First, slice_first}
 use Rattle.counting.proofs.Appended.{left_split}

@@ -21,7 +21,7 @@ use Rattle.parser.specs.Engine.{pending_by, engine}
 use Rattle.parser.specs.Claims.{left}
 use Rattle.parser.specs.declared.Parser.{Parser}
 use Rattle.parser.specs.declared.Fed.{Fed}
-use Rattle.feed.specs.declared.feeding.Taken.{Taken}
+use Rattle.feed.specs.declared.feeding.Taken as Lent
 use Rattle.parser.proofs.Feeding.{Valid}
 use Rattle.parser.proofs.Engines.{lawful, slice_until}
 use Rattle.parser.proofs.Demand.{small}
@@ -51,7 +51,7 @@ until_taken : (bs : List ℕ) (p : Parser) → Taken p bs (until p bs)
 until_taken [] p = (omega arith, refl)
 until_taken (b ∷ bs) p = (until_some p b bs (until_taken bs ((engine link_limit).feed p b).0)).1
 
-pub record First (p : Parser) (bs : List ℕ) (r : Fed Taken) : Type 0 where
+pub record First (p : Parser) (bs : List ℕ) (r : Fed Lent.Taken) : Type 0 where
   pub some : 0 < r.answer.count
   pub inside : r.answer.count ≤ length bs
   pub first : r.parser ≡ left p (feeds (take r.answer.count bs))
