@@ -1,23 +1,58 @@
 // Where the frames of the input begin and end, by their lengths.
-ghost use Rattle.std.specs.Prelude.{◌<◌, ◌≤◌, length};
+ghost use Rattle.std.specs.Prelude.{◌≡◌, ◌≤◌, length};
 
-use wire::{FRAMING, MaybeU16, le16};
+use wire::{FRAMING, le16};
 
-// Returns where the frame that starts here ends: after as many data bytes as its length says, and the framing; or where
-// the input ends, if that comes first.
-pub fn end(bytes: &[u8], start: usize) -> usize
-    requires inside { start < length bytes.now }
-    ensures after { (start < result) × (result ≤ length bytes.now) }
-{
-    let rest = &bytes[start..];
-    let MaybeU16::Some(len) = le16(rest, 4) else {
-        return bytes.len();
-    };
-    let framed = len as usize + FRAMING;
-    if framed < rest.len() {
-        start + framed
-    } else {
-        bytes.len()
+// A frame of some bytes, and the place where it starts.
+#[derive(Clone, Copy)]
+pub struct Placed<'a> {
+    pub start: usize,
+    pub frame: &'a [u8],
+}
+
+// The frames that bytes hold, one after another. A frame has as many data bytes as its length says, and the framing;
+// the last one has fewer if the bytes end first.
+#[derive(Drop)]
+pub struct Frames<'a> {
+    bytes: &'a [u8],
+    start: usize,
+}
+
+impl<'a> Frames<'a> {
+    // Begins with the frame at the front.
+    pub fn of(bytes: &'a [u8]) -> Self
+        ensures over { result.bytes.now ≡ bytes.now }
+    {
+        Frames { bytes, start: 0 }
+    }
+}
+
+impl<'a> Iterator for Frames<'a> {
+    ghost use Rattle.std.specs.Prelude.{◌≡◌, ◌-◌, ◌≤◌, length, IfSome};
+    ghost use Rattle.std.specs.Iterator.{at_most};
+
+    type Item = Placed<'a>;
+
+    // The bytes stay, and a frame starts among them.
+    ghost next_gives = { λ s r t. (t.bytes.now ≡ s.bytes.now) × IfSome r (λ p. p.start ≤ length s.bytes.now) };
+
+    ghost remaining = { λ s. at_most (length s.bytes.now - s.start) };
+
+    fn next(&mut self) -> Option<Placed<'a>> {
+        let start = self.start;
+        let rest = self.bytes.get(start..)?;
+        if rest.is_empty() {
+            return None;
+        }
+        let size = match le16(rest, 4) {
+            Some(len) => rest.len().min(usize::from(len) + FRAMING),
+            None => rest.len(),
+        };
+        self.start += size;
+        Some(Placed {
+            start,
+            frame: &rest[..size],
+        })
     }
 }
 
@@ -26,9 +61,10 @@ pub fn boundary(bytes: &[u8], place: usize) -> usize
     requires inside { place ≤ length bytes.now }
     ensures after { (place ≤ result) × (result ≤ length bytes.now) }
 {
-    let mut start = 0;
-    while start < place {
-        start = end(bytes, start);
+    for placed in Frames::of(bytes) {
+        if place <= placed.start {
+            return placed.start;
+        }
     }
-    start
+    bytes.len()
 }

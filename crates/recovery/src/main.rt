@@ -8,123 +8,63 @@
 
 #![tactic(auto)]
 
+use cost::{Cost, Lost};
 use counting::{feed_all, read_full};
-use ld2410::{FrameKind, MAX_DATA, Parser};
+use frames::Frames;
+use ld2410::{MAX_DATA, Parser};
 use std::io;
 use way::Way;
-use wire::bump;
 
+mod cost;
 mod frames;
 mod noise;
-mod text;
 mod way;
 
 ghost use Rattle.std.specs.Prelude.{◌<◌, ◌≤◌, length};
 
-// The cost of a way's disturbed streams: how many there were, the frames that they lost, the most that one of them
-// lost, and the largest distance of a lost frame.
-#[derive(Clone, Copy)]
-struct Cost {
-    streams: u64,
-    lost: u64,
-    most: usize,
-    farthest: usize,
+// Feeds a frame to the parser, and tests whether it is found.
+fn finds(parser: &mut Parser, frame: &[u8]) -> bool {
+    let Some((last, front)) = frame.split_last() else {
+        return false;
+    };
+    *parser = feed_all(*parser, front);
+    let begun = parser.unfinished();
+    parser.feed(*last).is_some() && begun == front.len()
 }
 
-// A parser that was fed a frame, and whether it found the frame.
-#[derive(Clone, Copy)]
-struct FedFrame {
-    parser: Parser,
-    found: bool,
-}
-
-fn max(a: usize, b: usize) -> usize {
-    if a < b { b } else { a }
-}
-
-fn delivers(kind: FrameKind) -> bool {
-    match kind {
-        FrameKind::None => false,
-        FrameKind::Report => true,
-        FrameKind::Ack => true,
-    }
-}
-
-// Feeds a frame, and says whether it is found.
-fn feed_frame(parser: Parser, frame: &[u8]) -> FedFrame
-    requires some { 0 < length frame.now }
-{
-    let last = frame.len() - 1;
-    let begun = feed_all(parser, &frame[0..last]);
-    let fed = begun.fed(frame[last]);
-    let answer = fed.answer;
-    let kind = answer.kind;
-    let ended = fed.parser;
-    FedFrame {
-        parser: ended,
-        found: begun.unfinished() == last && delivers(kind),
-    }
-}
-
-// Feeds the rest of the input, from a place on, and adds the cost of this stream.
-fn go_on(cost: Cost, parser: Parser, bytes: &[u8], place: usize) -> Cost
-    requires inside { place ≤ length bytes.now }
-{
-    let boundary = frames::boundary(bytes, place);
-    let mut at = feed_all(parser, &bytes[place..boundary]);
-    let mut lost = 0;
-    let mut farthest = cost.farthest;
-    let mut start = boundary;
-    while start < bytes.len() {
-        let end = frames::end(bytes, start);
-        let fed = feed_frame(at, &bytes[start..end]);
-        at = fed.parser;
-        if !fed.found {
-            lost += 1;
-            farthest = max(farthest, start - boundary);
+// Feeds the whole frames from the boundary on, and returns those that are lost.
+fn lost(parser: Parser, whole: &[u8]) -> Lost {
+    let mut parser = parser;
+    let mut lost = Lost::default();
+    for placed in Frames::of(whole) {
+        if !finds(&mut parser, placed.frame) {
+            lost.count(placed.start);
         }
-        start = end;
     }
-    Cost {
-        streams: bump(cost.streams, 1),
-        lost: bump(cost.lost, lost),
-        most: max(cost.most, lost),
-        farthest,
-    }
+    lost
 }
 
-// Disturbs the input at a place, with each disturbance of a way; the parser has taken the bytes before.
-fn disturb(way: Way, cost: Cost, parser: Parser, bytes: &[u8], place: usize) -> Cost
+// Disturbs the input at a place, with each disturbance of a way, and counts the streams; the parser has taken the bytes
+// before.
+fn disturb(cost: &mut Cost, way: Way, parser: Parser, bytes: &[u8], place: usize)
     requires inside { place < length bytes.now }
 {
-    let mut cost = cost;
-    let mut i: u16 = 0;
-    while i < 256 {
-        let number = i as u8;
-        if way.has(number, bytes[place]) {
-            let disturbed = way.fed(number, parser);
-            cost = go_on(cost, disturbed, bytes, place + way.left_out());
-        }
-        i += 1;
+    let rest = place + way.left_out();
+    let boundary = frames::boundary(bytes, rest);
+    let byte = bytes[place];
+    for disturbed in (0..=u8::MAX).filter_map(|number| way.disturbed(number, byte, parser)) {
+        let at = feed_all(disturbed, &bytes[rest..boundary]);
+        cost.count(lost(at, &bytes[boundary..]));
     }
-    cost
 }
 
 // Disturbs the input at each place.
 fn everywhere(way: Way, bytes: &[u8]) -> Cost {
-    let mut cost = Cost {
-        streams: 0,
-        lost: 0,
-        most: 0,
-        farthest: 0,
-    };
-    let mut at = Parser::new();
-    let mut place = 0;
-    while place < bytes.len() {
-        cost = disturb(way, cost, at, bytes, place);
-        let fed = at.fed(bytes[place]);
-        at = fed.parser;
-        place += 1;
+    let mut cost = Cost::default();
+    let mut before = Parser::new();
+    for (place, byte) in bytes.iter().enumerate() {
+        disturb(&mut cost, way, before, bytes, place);
+        before.feed(*byte);
     }
     cost
 }
@@ -133,9 +73,9 @@ fn main(rt: HostRuntime) -> io::Result<()> {
     let mut input = [0u8; 4096];
     let n = read_full(&mut rt.stdin(), &mut input);
     let bytes = &input[..n];
-    text::cost(&rt, b"changed", everywhere(Way::Changed, bytes))?;
-    text::cost(&rt, b"dropped", everywhere(Way::Dropped, bytes))?;
-    text::cost(&rt, b"inserted", everywhere(Way::Inserted, bytes))?;
-    text::cost(&rt, b"noise", everywhere(Way::Noise, bytes))?;
-    text::bound(&rt, MAX_DATA)
+    println!(rt; "changed: {}", everywhere(Way::Changed, bytes))?;
+    println!(rt; "dropped: {}", everywhere(Way::Dropped, bytes))?;
+    println!(rt; "inserted: {}", everywhere(Way::Inserted, bytes))?;
+    println!(rt; "noise: {}", everywhere(Way::Noise, bytes))?;
+    println!(rt; "bound: none {MAX_DATA} or more bytes after the boundary")
 }

@@ -1,7 +1,7 @@
 // The ways to disturb the input at a place. Each has up to 256 disturbances there, by their numbers.
 ghost use Rattle.std.specs.Prelude.{◌≤◌};
 
-use crate::noise::{RUNS, run};
+use crate::noise::Noise;
 use counting::feed_all;
 use ld2410::Parser;
 
@@ -16,27 +16,16 @@ pub enum Way {
 }
 
 impl Way {
-    // Tests whether there is a disturbance of this number where the place has this byte.
-    pub fn has(self, number: u8, byte: u8) -> bool {
+    // Feeds the parser what the disturbance with this number puts in where the place has this byte. Returns no parser
+    // if the way has no such disturbance there.
+    pub fn disturbed(self, number: u8, byte: u8, parser: Parser) -> Option<Parser> {
         match self {
-            Way::Changed => number != byte,
-            Way::Dropped => number == 0,
-            Way::Inserted => true,
-            Way::Noise => number < RUNS,
-        }
-    }
-
-    // Feeds the parser what the disturbance puts in.
-    pub fn fed(self, number: u8, parser: Parser) -> Parser {
-        match self {
-            Way::Changed | Way::Inserted => {
-                let fed = parser.fed(number);
-                fed.parser
-            }
-            Way::Dropped => parser,
+            Way::Changed if number == byte => None,
+            Way::Changed | Way::Inserted => Some(parser.fed(number).parser),
+            Way::Dropped => (number == 0).then_some(parser),
             Way::Noise => {
-                let noise = run(number);
-                feed_all(parser, &noise)
+                let noise = Noise::ALL.get(usize::from(number))?;
+                Some(feed_all(parser, &noise.run()))
             }
         }
     }

@@ -1,10 +1,6 @@
--- `recovery::frames::boundary` meets its contract: each frame ends after its start, within the input.
-use Prim.Native.Nat.{◌≤◌, ◌-◌}
-use lib.ListN.{length}
+-- `recovery::frames::boundary` meets its contract: the frames that are left are those of the same bytes.
+use Rattle.std.proofs.Common.{◌≡◌}
 use Rattle.recovery.proofs.frames.boundary.Given as goal
 
-abbrev pub invariant-loop-start : goal.invariant-loop-start
-invariant-loop-start l = l.start ≤ length l.bytes
-
-abbrev pub decreases-loop-start : goal.decreases-loop-start
-decreases-loop-start l = length l.bytes - l.start
+abbrev pub invariant-loop-placed : goal.invariant-loop-placed
+invariant-loop-placed l = l.placed-iterator.bytes.now ≡ l.bytes

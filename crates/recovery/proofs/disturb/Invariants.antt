@@ -1,9 +1,0 @@
--- `recovery::disturb` is safe and ends: the loop counts up to 256.
-use Prim.Native.Nat.{◌≤◌, ◌-◌}
-use Rattle.recovery.proofs.disturb.Given as goal
-
-abbrev pub invariant-loop-i : goal.invariant-loop-i
-invariant-loop-i l = l.i ≤ 256
-
-abbrev pub decreases-loop-i : goal.decreases-loop-i
-decreases-loop-i l = 256 - l.i
