@@ -1,137 +1,144 @@
-// Rows about acknowledgements. A row is a line with the refusal, the acknowledgement's fields, what `expect` of a word
-// refuses, and the reply that the payload holds.
-use crate::frames;
-use crate::published::PLAIN;
-use crate::text::{Row, bytes, form, gates, number, text};
-use ld2410::{
-    Ack, AckResult, EnableConfigResult, FirmwareVersionResult, ParametersResult, SpanResult, word,
-};
-use std::io;
+// The rows about acknowledgements. A row has the refusal, the acknowledgement's fields, what `expect` of a word
+// refuses, and the reply that the payload holds, if the word has one.
+use crate::frames::Front;
+use crate::hex::Hex;
+use ld2410::{Ack, Error, Frame, word};
+use refusal::refusal_number;
+use std::fmt;
 
-// Writes the row of an acknowledgement's data, with a word awaited.
-pub fn in_data(rt: &impl Print, label: &[u8], data: &[u8], awaited: u16) -> io::Result<()> {
-    text(rt, label)?;
-    match Ack::parse(data) {
-        AckResult::Ok(ack) => {
-            text(rt, b": refusal 0")?;
-            fields(rt, ack, awaited)?;
-            text(rt, b"\n")
+// A whole frame that holds an acknowledgement, where the word is awaited.
+#[derive(Drop)]
+pub struct AckFrame<'a> {
+    pub frame: &'a [u8],
+    pub awaited: u16,
+}
+
+impl fmt::Display for AckFrame<'_> {
+    fn fmt<W: fmt::Write>(&self, f: &mut fmt::Formatter<W>) -> fmt::Result {
+        let AckFrame { frame, awaited } = *self;
+        let read = Frame::parse(frame);
+        write!(f, "{}", Front(read))?;
+        if let Ok(Frame::Ack(ack)) = read {
+            let fields = Fields { ack, awaited };
+            let reply = Reply {
+                ack,
+                awaited,
+                frame,
+            };
+            write!(f, ", {fields}{reply}")?;
         }
-        AckResult::Err(e) => number(rt, b": refusal %\n", e.number() as u64),
+        Ok(())
     }
 }
 
-// Writes the row of a whole frame whose acknowledgement has no reply.
-pub fn plain(rt: &impl Print, label: &[u8], frame: [u8; PLAIN], awaited: u16) -> io::Result<()> {
-    in_frame(rt, label, &frame, awaited)?;
-    text(rt, b"\n")
+// An acknowledgement's data, where the word is awaited.
+#[derive(Drop)]
+pub struct AckData<'a> {
+    pub data: &'a [u8],
+    pub awaited: u16,
 }
 
-// Writes the row of `EnableConfig`'s acknowledgement, with its reply; the three below do so for theirs.
-pub fn enable_config(rt: &impl Print, label: &[u8], frame: &[u8]) -> io::Result<()> {
-    let ack = in_frame(rt, label, frame, word::ENABLE_CONFIG)?;
-    match ack.enable_config(frame) {
-        EnableConfigResult::Ok(c) => {
-            let version = c.protocol_version as u64;
-            let row = [version, c.buffer_size as u64, 0, 0, 0, 0, 0];
-            form(rt, b", version %, buffer %\n", row)
+impl fmt::Display for AckData<'_> {
+    fn fmt<W: fmt::Write>(&self, f: &mut fmt::Formatter<W>) -> fmt::Result {
+        let awaited = self.awaited;
+        match Ack::parse(self.data) {
+            Ok(ack) => write!(f, "refusal 0, {}", Fields { ack, awaited }),
+            Err(e) => write!(f, "refusal {}", e.number()),
         }
-        EnableConfigResult::Err(e) => refused(rt, e.number()),
     }
 }
 
-pub fn firmware_version(rt: &impl Print, label: &[u8], frame: &[u8]) -> io::Result<()> {
-    let ack = in_frame(rt, label, frame, word::READ_FIRMWARE)?;
-    match ack.firmware_version(frame) {
-        FirmwareVersionResult::Ok(v) => {
-            let kind = v.firmware_type as u64;
-            let row = [kind, v.major as u64, v.minor as u64, 0, 0, 0, 0];
-            form(rt, b", type #, major #, minor @\n", row)
+// An acknowledgement, and what `expect` of the awaited word refuses.
+#[derive(Drop)]
+struct Fields {
+    ack: Ack,
+    awaited: u16,
+}
+
+impl fmt::Display for Fields {
+    fn fmt<W: fmt::Write>(&self, f: &mut fmt::Formatter<W>) -> fmt::Result {
+        let Fields { ack, awaited } = *self;
+        let refusal = refusal_number(ack.expect(awaited));
+        write!(
+            f,
+            "word {:04x}, ok {}, status {:04x}, payload {} {}, awaited {awaited:04x}: {refusal}",
+            ack.word,
+            u8::from(ack.ok),
+            ack.status,
+            ack.payload.start,
+            ack.payload.len
+        )
+    }
+}
+
+// The reply to the awaited word, which an acknowledgement's payload in the frame holds. Most words have none.
+#[derive(Drop)]
+struct Reply<'a> {
+    ack: Ack,
+    awaited: u16,
+    frame: &'a [u8],
+}
+
+impl fmt::Display for Reply<'_> {
+    fn fmt<W: fmt::Write>(&self, f: &mut fmt::Formatter<W>) -> fmt::Result {
+        match self.awaited {
+            word::ENABLE_CONFIG => self.enable_config(f),
+            word::READ_FIRMWARE => self.firmware_version(f),
+            word::READ_MAC => self.mac(f),
+            word::READ_PARAMETERS => self.parameters(f),
+            _ => Ok(()),
         }
-        FirmwareVersionResult::Err(e) => refused(rt, e.number()),
+    }
+}
+
+impl Reply<'_> {
+    fn enable_config<W: fmt::Write>(&self, f: &mut fmt::Formatter<W>) -> fmt::Result {
+        match self.ack.enable_config(self.frame) {
+            Ok(config) => write!(
+                f,
+                ", version {}, buffer {}",
+                config.protocol_version, config.buffer_size
+            ),
+            Err(e) => refused(f, e),
+        }
+    }
+
+    fn firmware_version<W: fmt::Write>(&self, f: &mut fmt::Formatter<W>) -> fmt::Result {
+        match self.ack.firmware_version(self.frame) {
+            Ok(version) => write!(
+                f,
+                ", type {:04x}, major {:04x}, minor {:08x}",
+                version.firmware_type, version.major, version.minor
+            ),
+            Err(e) => refused(f, e),
+        }
+    }
+
+    fn mac<W: fmt::Write>(&self, f: &mut fmt::Formatter<W>) -> fmt::Result {
+        match self.ack.mac(self.frame) {
+            Ok(mac) => write!(f, ", reply 0, address{}", Hex(&mac.0)),
+            Err(e) => refused(f, e),
+        }
+    }
+
+    fn parameters<W: fmt::Write>(&self, f: &mut fmt::Formatter<W>) -> fmt::Result {
+        match self.ack.parameters(self.frame) {
+            Ok(p) => write!(
+                f,
+                ", reply 0, farthest {:02x} {:02x} {:02x}, moving{}, stationary{}, seconds {}",
+                p.max_gate,
+                p.max_moving_gate,
+                p.max_stationary_gate,
+                Hex(&p.moving_sensitivity),
+                Hex(&p.stationary_sensitivity),
+                p.no_one_secs
+            ),
+            Err(e) => refused(f, e),
+        }
     }
 }
 
 // Writes the refusal of a reply.
-fn refused(rt: &impl Print, refusal: u8) -> io::Result<()> {
-    number(rt, b", reply %\n", refusal as u64)
-}
-
-pub fn mac(rt: &impl Print, label: &[u8], frame: &[u8]) -> io::Result<()> {
-    let ack = in_frame(rt, label, frame, word::READ_MAC)?;
-    let reply = ack.mac(frame);
-    let outcome = reply.outcome;
-    let mac = reply.mac;
-    let address = mac.0;
-    number(rt, b", reply %, address", outcome.number() as u64)?;
-    bytes(rt, &address)?;
-    text(rt, b"\n")
-}
-
-pub fn parameters(rt: &impl Print, label: &[u8], frame: &[u8]) -> io::Result<()> {
-    let ack = in_frame(rt, label, frame, word::READ_PARAMETERS)?;
-    parameters_reply(rt, ack.parameters(frame))
-}
-
-fn parameters_reply(rt: &impl Print, reply: ParametersResult) -> io::Result<()> {
-    let p = reply.parameters;
-    let moving = p.moving_sensitivity;
-    let stationary = p.stationary_sensitivity;
-    form(rt, b", reply %, farthest ~ ~ ~, moving", farthest(reply))?;
-    gates(rt, moving)?;
-    text(rt, b", stationary")?;
-    gates(rt, stationary)?;
-    number(rt, b", seconds %\n", p.no_one_secs as u64)
-}
-
-// Returns the refusal and the farthest gates.
-fn farthest(reply: ParametersResult) -> Row {
-    let outcome = reply.outcome;
-    let p = reply.parameters;
-    [
-        outcome.number() as u64,
-        p.max_gate as u64,
-        p.max_moving_gate as u64,
-        p.max_stationary_gate as u64,
-        0,
-        0,
-        0,
-    ]
-}
-
-// Writes the front of a row about a whole frame, and returns the acknowledgement, whose payload is in `bytes`.
-fn in_frame(rt: &impl Print, label: &[u8], bytes: &[u8], awaited: u16) -> io::Result<Ack> {
-    let frame = frames::read(rt, label, bytes)?;
-    let ack = frame.ack;
-    fields(rt, ack, awaited)?;
-    Ok(ack)
-}
-
-fn fields(rt: &impl Print, ack: Ack, awaited: u16) -> io::Result<()> {
-    form(
-        rt,
-        b", word #, ok %, status #, payload % %, awaited #: %",
-        row(ack, awaited),
-    )
-}
-
-// Returns the fields, the awaited word, and what `expect` of it refuses.
-fn row(ack: Ack, awaited: u16) -> Row {
-    let payload = ack.payload;
-    [
-        ack.word as u64,
-        ack.ok as u64,
-        ack.status as u64,
-        payload.start as u64,
-        payload.len as u64,
-        awaited as u64,
-        refusal(ack.expect(awaited)),
-    ]
-}
-
-fn refusal(span: SpanResult) -> u64 {
-    match span {
-        SpanResult::Ok(_) => 0,
-        SpanResult::Err(e) => e.number() as u64,
-    }
+fn refused<W: fmt::Write>(f: &mut fmt::Formatter<W>, refusal: Error) -> fmt::Result {
+    write!(f, ", reply {}", refusal.number())
 }

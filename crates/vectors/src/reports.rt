@@ -1,58 +1,81 @@
-// Rows about reports: a whole frame that is read, or a report's data. A row is a line with the refusal and the report.
-use crate::frames;
-use crate::text::{Row, bytes, form, gates, number, text};
-use ld2410::{Engineering, Report};
-use std::io;
+// The rows about reports: a whole frame that is read, or a report's data. A row has the refusal and the report.
+use crate::frames::Front;
+use crate::hex::Hex;
+use ld2410::{Engineering, Frame, Report};
+use std::fmt;
 
-// Writes the row of a report in a whole frame.
-pub fn in_frame(rt: &impl Print, label: &[u8], bytes: &[u8]) -> io::Result<()> {
-    let frame = frames::read(rt, label, bytes)?;
-    fields(rt, frame.report)
-}
+// A whole frame that holds a report.
+#[derive(Drop)]
+pub struct ReportFrame<'a>(pub &'a [u8]);
 
-// Writes the row of a report's data.
-pub fn in_data(rt: &impl Print, label: &[u8], data: &[u8]) -> io::Result<()> {
-    let read = Report::parse(data);
-    let outcome = read.outcome;
-    text(rt, label)?;
-    number(rt, b": refusal %", outcome.number() as u64)?;
-    fields(rt, read.report)
-}
-
-fn fields(rt: &impl Print, report: Report) -> io::Result<()> {
-    form(
-        rt,
-        b", state %, moving % %, stationary % %, detection %",
-        basic(report),
-    )?;
-    if report.is_engineering() {
-        engineering(rt, report.engineering)?;
+impl fmt::Display for ReportFrame<'_> {
+    fn fmt<W: fmt::Write>(&self, f: &mut fmt::Formatter<W>) -> fmt::Result {
+        let read = Frame::parse(self.0);
+        write!(f, "{}", Front(read))?;
+        if let Ok(Frame::Report(report)) = read {
+            write!(f, ", {}", Fields(report))?;
+        }
+        Ok(())
     }
-    text(rt, b"\n")
 }
 
-// Returns the fields but the engineering block.
-fn basic(report: Report) -> Row {
-    let state = report.state;
-    [
-        state.to_byte() as u64,
-        report.moving_distance_cm as u64,
-        report.moving_energy as u64,
-        report.stationary_distance_cm as u64,
-        report.stationary_energy as u64,
-        report.detection_distance_cm as u64,
-        0,
-    ]
+// A report's data.
+#[derive(Drop)]
+pub struct ReportData<'a>(pub &'a [u8]);
+
+impl fmt::Display for ReportData<'_> {
+    fn fmt<W: fmt::Write>(&self, f: &mut fmt::Formatter<W>) -> fmt::Result {
+        match Report::parse(self.0) {
+            Ok(report) => write!(f, "refusal 0, {}", Fields(report)),
+            Err(e) => write!(
+                f,
+                "refusal {}, state 0, moving 0 0, stationary 0 0, detection 0",
+                e.number()
+            ),
+        }
+    }
 }
 
-fn engineering(rt: &impl Print, block: Engineering) -> io::Result<()> {
-    let moving = block.moving_energy;
-    let stationary = block.stationary_energy;
-    let extra = block.extra;
-    number(rt, b", moving gates %:", block.moving_gates as u64)?;
-    gates(rt, moving)?;
-    number(rt, b", stationary gates %:", block.stationary_gates as u64)?;
-    gates(rt, stationary)?;
-    number(rt, b", reserved %:", block.extra_len as u64)?;
-    bytes(rt, &extra)
+// A report, with its engineering block if it has one.
+#[derive(Drop)]
+struct Fields(Report);
+
+impl fmt::Display for Fields {
+    fn fmt<W: fmt::Write>(&self, f: &mut fmt::Formatter<W>) -> fmt::Result {
+        let report = self.0;
+        write!(
+            f,
+            "state {}, moving {} {}, stationary {} {}, detection {}",
+            report.state.to_byte(),
+            report.moving_distance_cm,
+            report.moving_energy,
+            report.stationary_distance_cm,
+            report.stationary_energy,
+            report.detection_distance_cm
+        )?;
+        if report.is_engineering() {
+            write!(f, ", {}", Block(report.engineering))?;
+        }
+        Ok(())
+    }
+}
+
+// An engineering block.
+#[derive(Drop)]
+struct Block(Engineering);
+
+impl fmt::Display for Block {
+    fn fmt<W: fmt::Write>(&self, f: &mut fmt::Formatter<W>) -> fmt::Result {
+        let block = self.0;
+        write!(
+            f,
+            "moving gates {}:{}, stationary gates {}:{}, reserved {}:{}",
+            block.moving_gates,
+            Hex(&block.moving_energy),
+            block.stationary_gates,
+            Hex(&block.stationary_energy),
+            block.extra_len,
+            Hex(&block.extra)
+        )
+    }
 }

@@ -1,23 +1,34 @@
-// Rows about commands. A row is a line with the number of bytes written, and the buffer that the encoder left, whose
-// bytes were all EE before.
-use crate::text::{bytes, number, text};
-use ld2410::{Command, WriteResult};
-use std::io;
+// The rows about commands. A row has the number of bytes written, and the buffer that the encoder left, whose bytes
+// were all EE before.
+use crate::hex::Hex;
+use ld2410::{Command, Error};
+use std::fmt;
 
-// Writes the row of a command, encoded into a buffer that takes the longest frame.
-pub fn sent(rt: &impl Print, label: &[u8], command: Command) -> io::Result<()> {
-    text(rt, label)?;
-    let mut out: [u8; 30] = [0xEE; 30];
-    let answer = command.encode(&mut out);
-    written(rt, answer, &out)
+// A command, encoded into a buffer that takes the longest frame.
+#[derive(Drop)]
+pub struct Sent(pub Command);
+
+impl fmt::Display for Sent {
+    fn fmt<W: fmt::Write>(&self, f: &mut fmt::Formatter<W>) -> fmt::Result {
+        let mut out = [0xEE; 30];
+        let answer = self.0.encode(&mut out);
+        write!(f, "{}", Written { answer, out: &out })
+    }
 }
 
-// Writes the end of a row: a writer's answer, and the buffer that it left.
-pub fn written(rt: &impl Print, answer: WriteResult, out: &[u8]) -> io::Result<()> {
-    match answer {
-        WriteResult::Ok(n) => number(rt, b", sent %:", n as u64)?,
-        WriteResult::Err(e) => number(rt, b", refused %:", e.number() as u64)?,
+// A writer's answer, and the buffer that it left.
+#[derive(Drop)]
+pub struct Written<'a> {
+    pub answer: Result<usize, Error>,
+    pub out: &'a [u8],
+}
+
+impl fmt::Display for Written<'_> {
+    fn fmt<W: fmt::Write>(&self, f: &mut fmt::Formatter<W>) -> fmt::Result {
+        let out = Hex(self.out);
+        match self.answer {
+            Ok(n) => write!(f, "sent {n}:{out}"),
+            Err(e) => write!(f, "refused {}:{out}", e.number()),
+        }
     }
-    bytes(rt, out)?;
-    text(rt, b"\n")
 }

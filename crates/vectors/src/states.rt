@@ -1,58 +1,52 @@
-// Rows about the state byte, request 3. A row is a line with the state that a report is read in, its targets, and the
-// frame that it is written as, in a buffer whose bytes were all EE before.
-use crate::sent::written;
-use crate::text::{Row, form};
-use crate::{frames, published, tried};
-use ld2410::{MaybeTarget, Report, write_report};
-use std::io;
+// The rows about the state byte, request 3. A row has the state that a report is read in, its targets, and the frame
+// that it is written as, in a buffer whose bytes were all EE before.
+use crate::frames::Front;
+use crate::sent::Written;
+use ld2410::{Frame, Report, write_report};
+use std::fmt;
 
 // The place of the state byte in a report frame.
 const STATE_AT: usize = 8;
 
-// Writes the row of case B with another state byte.
-pub fn basic(rt: &impl Print, label: &[u8], state: u8) -> io::Result<()> {
-    let mut bytes = tried::B;
-    bytes[STATE_AT] = state;
-    again(rt, label, &bytes)
+// A report frame of `N` bytes, with another state byte.
+#[derive(Drop)]
+pub struct InState<const N: usize> {
+    pub frame: [u8; N],
+    pub state: u8,
 }
 
-// Writes the row of the published engineering report with another state byte.
-pub fn engineering(rt: &impl Print, label: &[u8], state: u8) -> io::Result<()> {
-    let mut bytes = published::ENGINEERING;
-    bytes[STATE_AT] = state;
-    again(rt, label, &bytes)
+impl<const N: usize> fmt::Display for InState<N> {
+    fn fmt<W: fmt::Write>(&self, f: &mut fmt::Formatter<W>) -> fmt::Result {
+        let mut bytes = self.frame;
+        if let Some(byte) = bytes.get_mut(STATE_AT) {
+            *byte = self.state;
+        }
+        let read = Frame::parse(&bytes);
+        write!(f, "{}", Front(read))?;
+        if let Ok(Frame::Report(report)) = read {
+            write!(f, ", {}", Again(report))?;
+        }
+        Ok(())
+    }
 }
 
-fn again(rt: &impl Print, label: &[u8], bytes: &[u8]) -> io::Result<()> {
-    let frame = frames::read(rt, label, bytes)?;
-    let report = frame.report;
-    form(
-        rt,
-        b", state %, moving %, stationary %, present %",
-        told(report),
-    )?;
-    let mut out: [u8; 46] = [0xEE; 46];
-    let answer = write_report(&mut out, report);
-    written(rt, answer, &out)
-}
+// A report that is written again: its state, whether each target is present, and whether any is.
+#[derive(Drop)]
+struct Again(Report);
 
-// Returns the state, whether each target is present, and whether any is.
-fn told(report: Report) -> Row {
-    let state = report.state;
-    [
-        state.to_byte() as u64,
-        there(report.moving()),
-        there(report.stationary()),
-        report.present() as u64,
-        0,
-        0,
-        0,
-    ]
-}
-
-fn there(target: MaybeTarget) -> u64 {
-    match target {
-        MaybeTarget::Some(_) => 1,
-        MaybeTarget::None => 0,
+impl fmt::Display for Again {
+    fn fmt<W: fmt::Write>(&self, f: &mut fmt::Formatter<W>) -> fmt::Result {
+        let report = self.0;
+        let mut out = [0xEE; 46];
+        let answer = write_report(&mut out, report);
+        write!(
+            f,
+            "state {}, moving {}, stationary {}, present {}, {}",
+            report.state.to_byte(),
+            u8::from(report.moving().is_some()),
+            u8::from(report.stationary().is_some()),
+            u8::from(report.present()),
+            Written { answer, out: &out }
+        )
     }
 }
