@@ -14,35 +14,12 @@ mod scripts;
 mod values;
 mod writers;
 
-use replay_io::input::{next_case, nothing_read};
+use replay_io::answers::answer_all;
+use replay_io::input;
 use replay_io::line::Text;
-use replay_io::{input, line};
-use std::io::Stdin;
-
-// Answers every case. The turns are counted down, from a number that no run uses up, so that the loop ends.
-fn run(from: &mut Stdin, input: &mut [u8], out: &mut Text) {
-    let mut case = nothing_read();
-    let mut taken = 0;
-    let mut turns = u64::MAX;
-    while turns > 0 {
-        case = next_case(from, input, case);
-        let start = case.start;
-        let end = case.end;
-        let found = case.found;
-        if !case.is_case() {
-            line::finish(out, taken, found);
-            return;
-        }
-        taken = ops::answer(out, taken, &input[start..end]);
-        turns -= 1;
-    }
-}
 
 fn main(rt: HostRuntime) {
     let mut input = [0u8; input::SIZE];
-    let mut out = Text {
-        bytes: [0; line::SIZE],
-        to: rt.stdout(),
-    };
-    run(&mut rt.stdin(), &mut input, &mut out);
+    let mut out = Text::new(rt.stdout());
+    answer_all(&mut rt.stdin(), &mut input, &mut out, ops::answer);
 }

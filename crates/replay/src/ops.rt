@@ -1,84 +1,83 @@
 // The table of the ops.
-use crate::{commands, fields, loads, readers, scripts, writers};
+use crate::scripts::Run;
+use crate::{commands, loads, readers, writers};
 use replay_io::argument::{rest, u8_at};
 use replay_io::input::HEAD;
-use replay_io::line;
 use replay_io::line::Text;
 
+// An op of one line: all but those of scripts.
+#[derive(Clone, Copy)]
+enum Op {
+    TargetState,
+    Report,
+    Ack,
+    Replies,
+    Frame,
+    Encode,
+    WriteReport,
+    WriteAck,
+    ReadCommand,
+    Baud,
+    BuiltReplies,
+    Load,
+}
+
 // Puts the answer to a case: the lines of a script, or one line.
-pub fn answer(out: &mut Text, taken: usize, case: &[u8]) -> usize {
-    let op = u8_at(case, 0);
+pub fn answer(out: &mut Text, case: &[u8]) {
+    let number = u8_at(case, 0);
     let argument = rest(case, HEAD);
-    if is_script(op, argument) {
-        scripts::run(
-            out,
-            taken,
-            op,
-            fields::parser(op, argument),
-            rest(argument, fields::script_at(op)),
-        )
-    } else {
-        one_line(out, taken, op, argument)
+    match Run::of(number, argument) {
+        Some(run) => run.answer(out),
+        None => one_line(out, number, argument),
     }
 }
 
-// Tests whether the op is one of scripts, and its argument has a parser if it is op 13 or 17.
-fn is_script(op: u8, argument: &[u8]) -> bool {
-    match op {
-        10 => true,
-        11 => true,
-        13 => fields::whole(argument),
-        16 => true,
-        17 => fields::whole(argument),
-        _ => false,
+// Puts the line of an op that is not one of scripts; `none` if the op is not in the table or does not take the argument.
+fn one_line(out: &mut Text, number: u8, argument: &[u8]) {
+    out.op(number);
+    match Op::of(number, argument) {
+        Some(op) => op.answer(out, argument),
+        None => out.none(),
     }
+    out.end();
 }
 
-// Puts the answer of an op that has one line.
-fn one_line(out: &mut Text, taken: usize, op: u8, argument: &[u8]) -> usize {
-    let n = line::op(out, taken, op);
-    let n = if has_answer(op, argument) {
-        fields(out, n, op, argument)
-    } else {
-        line::none(out, n)
-    };
-    line::end(out, n)
-}
+impl Op {
+    // Returns the op with a number, if it is in the table and takes the argument.
+    fn of(number: u8, argument: &[u8]) -> Option<Op> {
+        let (op, shortest) = match number {
+            1 => (Op::TargetState, 1),
+            2 => (Op::Report, 0),
+            3 => (Op::Ack, 0),
+            4 => (Op::Replies, 2),
+            5 => (Op::Frame, 0),
+            6 => (Op::Encode, 9),
+            7 if writers::has_report(argument) => (Op::WriteReport, 42),
+            8 => (Op::WriteAck, 8),
+            9 => (Op::ReadCommand, 0),
+            12 => (Op::Baud, 2),
+            14 => (Op::BuiltReplies, 23),
+            15 if loads::has_buffer(argument) => (Op::Load, 9),
+            _ => return None,
+        };
+        (argument.len() >= shortest).then_some(op)
+    }
 
-// Tests whether an op of one line is in the table, and the argument is one of its arguments.
-fn has_answer(op: u8, argument: &[u8]) -> bool {
-    let shortest = match op {
-        1 => 1,
-        2 => 0,
-        3 => 0,
-        4 => 2,
-        5 => 0,
-        6 => 9,
-        7 => 42,
-        8 => 8,
-        9 => 0,
-        12 => 2,
-        14 => 23,
-        15 => 9,
-        _ => return false,
-    };
-    argument.len() >= shortest
-        && (writers::has_value(op, argument) && loads::has_buffer(op, argument))
-}
-
-// Puts what follows the op in its line.
-fn fields(out: &mut Text, taken: usize, op: u8, argument: &[u8]) -> usize {
-    match op {
-        1 => readers::target_state(out, taken, argument),
-        2 => readers::report(out, taken, argument),
-        3 => readers::ack(out, taken, argument),
-        4 => readers::replies(out, taken, argument),
-        5 => readers::frame(out, taken, argument),
-        6 => commands::encode(out, taken, argument),
-        9 => commands::read(out, taken, argument),
-        12 => commands::baud(out, taken, argument),
-        14 => readers::replies_of_built(out, taken, argument),
-        15 => loads::write(out, taken, argument),
-        _ => writers::write(out, taken, op, argument),
+    // Puts what follows the op in its line.
+    fn answer(self, out: &mut Text, argument: &[u8]) {
+        match self {
+            Op::TargetState => readers::target_state(out, argument),
+            Op::Report => readers::report(out, argument),
+            Op::Ack => readers::ack(out, argument),
+            Op::Replies => readers::replies(out, argument),
+            Op::Frame => readers::frame(out, argument),
+            Op::Encode => writers::encode(out, argument),
+            Op::WriteReport => writers::report(out, argument),
+            Op::WriteAck => writers::ack(out, argument),
+            Op::ReadCommand => commands::read(out, argument),
+            Op::Baud => commands::baud(out, argument),
+            Op::BuiltReplies => readers::replies_of_built(out, argument),
+            Op::Load => loads::write(out, argument),
+        }
     }
 }

@@ -1,65 +1,53 @@
 // Ops 1 to 5 and 14: the readers of reports, acknowledgements and whole frames, and the replies of an acknowledgement.
 // Each puts the numbers that follow its op.
 use crate::numbers::usize_at;
+use crate::values::Fields;
 use crate::{replies, values};
-use ld2410::{Ack, AckResult, Frame, Report, Span, TargetState};
+use ld2410::{Ack, Frame, Report, Span, TargetState};
+use refusal::refusal_number;
 use replay_io::argument::{flag_at, rest, u8_at, u16_at};
-use replay_io::line::{Text, number, row};
+use replay_io::line::Text;
 
 // Answers op 1, on a byte.
-pub fn target_state(out: &mut Text, taken: usize, argument: &[u8]) -> usize {
-    let state = TargetState::from_byte(u8_at(argument, 0));
-    row(out, taken, values::target_state(state), 4)
+pub fn target_state(out: &mut Text, argument: &[u8]) {
+    TargetState::from_byte(u8_at(argument, 0)).put(out);
 }
 
 // Answers op 2, on a report's data.
-pub fn report(out: &mut Text, taken: usize, data: &[u8]) -> usize {
-    let read = Report::parse(data);
-    let outcome = read.outcome;
-    let n = number(out, taken, outcome.number() as u64);
-    values::report(out, n, read.report)
+pub fn report(out: &mut Text, bytes: &[u8]) {
+    values::answer(out, Report::parse(bytes));
 }
 
 // Answers op 3, on an acknowledgement's data.
-pub fn ack(out: &mut Text, taken: usize, data: &[u8]) -> usize {
-    match Ack::parse(data) {
-        AckResult::Ok(ack) => {
-            let n = number(out, taken, 0);
-            row(out, n, values::ack(ack), 5)
-        }
-        AckResult::Err(e) => row(out, taken, [e.number() as u64, 0, 0, 0, 0, 0, 0], 6),
-    }
+pub fn ack(out: &mut Text, bytes: &[u8]) {
+    values::answer(out, Ack::parse(bytes));
 }
 
 // Answers op 4, on an awaited word and an acknowledgement's data.
-pub fn replies(out: &mut Text, taken: usize, argument: &[u8]) -> usize {
-    let data = rest(argument, 2);
-    match Ack::parse(data) {
-        AckResult::Ok(ack) => {
-            let n = number(out, taken, 0);
-            replies::all(out, n, ack, u16_at(argument, 0), data)
-        }
-        AckResult::Err(e) => number(out, taken, e.number() as u64),
+pub fn replies(out: &mut Text, argument: &[u8]) {
+    let bytes = rest(argument, 2);
+    let read = Ack::parse(bytes);
+    out.number(refusal_number(read));
+    if let Ok(ack) = read {
+        replies::all(out, ack, u16_at(argument, 0), bytes);
     }
 }
 
 // Answers op 5, on the bytes of a whole frame.
-pub fn frame(out: &mut Text, taken: usize, data: &[u8]) -> usize {
-    let read = Frame::parse(data);
-    let outcome = read.outcome;
-    let n = number(out, taken, outcome.number() as u64);
-    values::frame(out, n, read.frame)
+pub fn frame(out: &mut Text, bytes: &[u8]) {
+    let read = Frame::parse(bytes);
+    out.number(refusal_number(read));
+    values::frame(out, read.ok());
 }
 
 // Answers op 14, on the fields of an acknowledgement, an awaited word and the bytes that hold the payload.
-pub fn replies_of_built(out: &mut Text, taken: usize, argument: &[u8]) -> usize {
+pub fn replies_of_built(out: &mut Text, argument: &[u8]) {
     replies::all(
         out,
-        taken,
         ack_in(argument),
         u16_at(argument, 21),
         rest(argument, 23),
-    )
+    );
 }
 
 // Builds the acknowledgement from its fields.

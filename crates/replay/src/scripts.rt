@@ -1,119 +1,129 @@
 // Ops 10, 11 and 13, and by the table engine 16 and 17: a script of calls on one parser, handed on from call to call.
 // Each call puts a line, and a closing line follows.
+use crate::fields::{SCRIPT_AT, parser_in};
 use crate::values;
-use frame::no_frame;
-use ld2410::{FedSlice, Frame, MAX_FRAME, Parser, Span, Taken};
-use replay_io::argument::u8_at;
-use replay_io::line;
-use replay_io::line::{Row, Text};
-use replay_io::script::call_size;
-use wire::min;
+use ld2410::{Fed, Frame, MAX_FRAME, Parser, Span, Taken};
+use replay_io::argument::rest;
+use replay_io::line::Text;
+use replay_io::script::{Call, Script};
 
-// Makes the calls of a script, up to one that is cut short or has no meaning.
-pub fn run(out: &mut Text, taken: usize, op: u8, parser: Parser, script: &[u8]) -> usize {
-    let mut now = parser;
-    let mut n = taken;
-    let mut at = 0;
-    loop {
-        let size = call_size(&script[at..]);
-        if size == 0 {
-            return closing(out, n, op, now);
+// The engine that feeds a parser.
+#[derive(Clone, Copy)]
+enum Engine {
+    Branches,
+    Tables,
+}
+
+// The run of a script: the op, and the parser that the engine feeds, from the first call on.
+#[derive(Clone, Copy)]
+pub struct Run<'a> {
+    op: u8,
+    engine: Engine,
+    parser: Parser,
+    script: &'a [u8],
+}
+
+impl<'a> Run<'a> {
+    // Returns the run of an op, if it is one of scripts, and its argument has a parser if it is op 13 or 17.
+    pub fn of(op: u8, argument: &'a [u8]) -> Option<Run<'a>> {
+        let (engine, is_built) = match op {
+            10 | 11 => (Engine::Branches, false),
+            13 => (Engine::Branches, true),
+            16 => (Engine::Tables, false),
+            17 => (Engine::Tables, true),
+            _ => return None,
+        };
+        let (parser, script) = if is_built {
+            (parser_in(argument)?, rest(argument, SCRIPT_AT))
+        } else {
+            (Parser::new(), argument)
+        };
+        Some(Run {
+            op,
+            engine,
+            parser,
+            script,
+        })
+    }
+
+    // Makes the calls, up to one that is cut short or has no meaning.
+    pub fn answer(self, out: &mut Text) {
+        let mut parser = self.parser;
+        for call in Script(self.script) {
+            let fed = self.engine.call(parser, call);
+            parser = fed.parser;
+            line(out, self.op, fed);
         }
-        let end = at + size;
-        let fed = call(op, now, &script[at..end]);
-        n = answered(out, n, op, fed);
-        now = fed.parser;
-        at = end;
+        closing(out, self.op, parser);
     }
 }
 
-// Makes the call that these bytes are.
-fn call(op: u8, parser: Parser, bytes: &[u8]) -> FedSlice {
-    match u8_at(bytes, 0) {
-        0 => fed(op, parser, u8_at(bytes, 1)),
-        1 => fed_slice(op, parser, &bytes[min(3, bytes.len())..]),
-        _ => FedSlice {
-            parser: parser.cleared(),
-            answer: Taken {
-                count: 0,
-                frame: no_frame(),
+impl Engine {
+    // Makes a call.
+    fn call(self, parser: Parser, call: Call<'_>) -> Fed<Taken> {
+        match call {
+            Call::Byte(byte) => self.fed(parser, byte),
+            Call::Slice(bytes) => self.fed_slice(parser, bytes),
+            Call::Reset => Fed {
+                parser: parser.cleared(),
+                answer: Taken {
+                    count: 0,
+                    frame: None,
+                },
             },
-        },
+        }
     }
-}
 
-// Tests whether the op is one of the table engine.
-fn by_tables(op: u8) -> bool {
-    op == 16 || op == 17
-}
-
-// Feeds a byte.
-fn fed(op: u8, parser: Parser, byte: u8) -> FedSlice {
-    let fed = if by_tables(op) {
-        parser.table_fed(byte)
-    } else {
-        parser.fed(byte)
-    };
-    let after = fed.parser;
-    let frame = fed.answer;
-    FedSlice {
-        parser: after,
-        answer: Taken { count: 1, frame },
+    // Feeds a byte.
+    fn fed(self, parser: Parser, byte: u8) -> Fed<Taken> {
+        let fed = match self {
+            Engine::Branches => parser.fed(byte),
+            Engine::Tables => parser.table_fed(byte),
+        };
+        Fed {
+            parser: fed.parser,
+            answer: Taken {
+                count: 1,
+                frame: fed.answer,
+            },
+        }
     }
-}
 
-// Feeds a slice.
-fn fed_slice(op: u8, parser: Parser, bytes: &[u8]) -> FedSlice {
-    if by_tables(op) {
-        parser.table_fed_slice(bytes)
-    } else {
-        parser.fed_slice(bytes)
+    // Feeds a slice.
+    fn fed_slice(self, parser: Parser, bytes: &[u8]) -> Fed<Taken> {
+        match self {
+            Engine::Branches => parser.fed_slice(bytes),
+            Engine::Tables => parser.table_fed_slice(bytes),
+        }
     }
 }
 
 // Puts the line of a call: its answer, then the bytes of an acknowledgement's payload in the parser's buffer.
-fn answered(out: &mut Text, taken: usize, op: u8, fed: FedSlice) -> usize {
-    let parser = fed.parser;
-    let buf = parser.buf;
-    let answer = fed.answer;
-    let n = line::op(out, taken, op);
-    let n = line::number(out, n, answer.count as u64);
-    let n = framed(out, n, answer.frame, &buf);
-    line::end(out, n)
-}
-
-// Puts a frame and the bytes of its payload.
-fn framed(out: &mut Text, taken: usize, frame: Frame, buf: &[u8; MAX_FRAME]) -> usize {
-    let ack = frame.ack;
-    let n = values::frame(out, taken, frame);
-    payload(out, n, ack.payload, buf)
+fn line(out: &mut Text, op: u8, fed: Fed<Taken>) {
+    out.op(op);
+    out.number(fed.answer.count);
+    values::frame(out, fed.answer.frame);
+    if let Some(Frame::Ack(ack)) = fed.answer.frame {
+        payload(out, ack.payload, &fed.parser.buf);
+    }
+    out.end();
 }
 
 // Puts the bytes of a payload, as far as they lie in the buffer.
-fn payload(out: &mut Text, taken: usize, span: Span, buf: &[u8; MAX_FRAME]) -> usize {
-    let all: &[u8] = buf;
-    let start = min(span.start, MAX_FRAME);
-    let end = start + min(span.len, MAX_FRAME - start);
-    line::bytes(out, taken, &all[start..end])
+fn payload(out: &mut Text, span: Span, buf: &[u8; MAX_FRAME]) {
+    let start = span.start.min(MAX_FRAME);
+    let end = start + span.len.min(MAX_FRAME - start);
+    out.numbers(&buf[start..end]);
 }
 
-// Puts the closing line.
-fn closing(out: &mut Text, taken: usize, op: u8, parser: Parser) -> usize {
-    let n = line::op(out, taken, op);
-    let n = line::row(out, n, counters(parser), 5);
-    line::end(out, n)
-}
-
-// Returns the counters, and the length of the frame in progress.
-fn counters(parser: Parser) -> Row {
+// Puts the closing line: the counters, and the length of the frame in progress.
+fn closing(out: &mut Text, op: u8, parser: Parser) {
     let stats = parser.stats();
-    [
-        stats.frames,
-        stats.resyncs,
-        stats.dropped,
-        stats.malformed,
-        parser.unfinished() as u64,
-        0,
-        0,
-    ]
+    out.op(op);
+    out.number(stats.frames);
+    out.number(stats.resyncs);
+    out.number(stats.dropped);
+    out.number(stats.malformed);
+    out.number(parser.unfinished());
+    out.end();
 }

@@ -1,133 +1,180 @@
-// The values of the link as numbers of a line: a function for each type, its fields first, then its accessors.
+// The values of the link as numbers of a line.
 use ld2410::{
-    Ack, Engineering, Frame, FrameKind, GATES, MaybeTarget, MaybeU8, Report, TargetState,
+    Ack, Baud, EnableConfig, Engineering, Error, FirmwareVersion, Frame, Mac, Report, Span, Target,
+    TargetState,
 };
-use replay_io::line::{Row, Text, bytes, number, row};
+use refusal::refusal_number;
+use replay_io::line::Text;
 
-// Returns a target state: its byte, then its accessors.
-pub fn target_state(state: TargetState) -> Row {
-    [
-        state.to_byte() as u64,
-        state.moving() as u64,
-        state.stationary() as u64,
-        state.present() as u64,
-        0,
-        0,
-        0,
-    ]
+// A value that a line has as a row of numbers: its fields, then its accessors.
+pub trait Fields: Copy {
+    // How many numbers they are.
+    const COUNT: usize;
+
+    // Puts them.
+    fn put(self, out: &mut Text);
 }
 
-// Puts a report: its fields, with those of its engineering block, then its accessors and the block's.
-pub fn report(out: &mut Text, taken: usize, report: Report) -> usize {
-    let block = report.engineering;
-    let n = row(out, taken, basic(report), 7);
-    let n = engineering(out, n, block);
-    let n = row(out, n, accessors(report), 7);
-    row(out, n, engineering_accessors(block), 7)
-}
-
-// Returns the fields of a report but for its engineering block.
-fn basic(report: Report) -> Row {
-    let state = report.state;
-    [
-        state.to_byte() as u64,
-        report.moving_distance_cm as u64,
-        report.moving_energy as u64,
-        report.stationary_distance_cm as u64,
-        report.stationary_energy as u64,
-        report.detection_distance_cm as u64,
-        report.is_engineering() as u64,
-    ]
-}
-
-// Returns the accessors of a report: both targets, then `present`.
-fn accessors(report: Report) -> Row {
-    let moving = target(report.moving());
-    let still = target(report.stationary());
-    let present = report.present() as u64;
-    [
-        moving[0], moving[1], moving[2], still[0], still[1], still[2], present,
-    ]
-}
-
-// Returns a target that may be absent: whether it is present, its distance and its energy.
-fn target(target: MaybeTarget) -> [u64; 3] {
-    match target {
-        MaybeTarget::Some(t) => [1, t.distance_cm as u64, t.energy as u64],
-        MaybeTarget::None => [0, 0, 0],
+// Puts the numbers of a value; a zero for each if it is not there.
+fn row<T: Fields>(out: &mut Text, value: Option<T>) {
+    match value {
+        Some(value) => value.put(out),
+        None => {
+            for _ in 0..T::COUNT {
+                out.number(0u8);
+            }
+        }
     }
+}
+
+// Puts an answer: the number of its refusal, then its value.
+pub fn answer<T: Fields>(out: &mut Text, answer: Result<T, Error>) {
+    out.number(refusal_number(answer));
+    row(out, answer.ok());
+}
+
+// Puts a value that may be absent: whether it is there, then the value.
+pub fn there<T: Fields>(out: &mut Text, value: Option<T>) {
+    out.number(value.is_some());
+    row(out, value);
+}
+
+impl Fields for u8 {
+    const COUNT: usize = 1;
+
+    fn put(self, out: &mut Text) {
+        out.number(self);
+    }
+}
+
+impl Fields for TargetState {
+    const COUNT: usize = 4;
+
+    fn put(self, out: &mut Text) {
+        out.number(self.to_byte());
+        out.number(self.moving());
+        out.number(self.stationary());
+        out.number(self.present());
+    }
+}
+
+impl Fields for Target {
+    const COUNT: usize = 2;
+
+    fn put(self, out: &mut Text) {
+        out.number(self.distance_cm);
+        out.number(self.energy);
+    }
+}
+
+impl Fields for Report {
+    const COUNT: usize = 50;
+
+    fn put(self, out: &mut Text) {
+        basic(out, self);
+        engineering(out, self.engineering);
+        there(out, self.moving());
+        there(out, self.stationary());
+        out.number(self.present());
+        engineering_accessors(out, self.engineering);
+    }
+}
+
+// Puts the fields of a report but for its engineering block.
+fn basic(out: &mut Text, report: Report) {
+    out.number(report.state.to_byte());
+    out.number(report.moving_distance_cm);
+    out.number(report.moving_energy);
+    out.number(report.stationary_distance_cm);
+    out.number(report.stationary_energy);
+    out.number(report.detection_distance_cm);
+    out.number(report.is_engineering());
 }
 
 // Puts the fields of an engineering block.
-fn engineering(out: &mut Text, taken: usize, block: Engineering) -> usize {
-    let moving = block.moving_energy;
-    let stationary = block.stationary_energy;
-    let extra = block.extra;
-    let n = number(out, taken, block.moving_gates as u64);
-    let n = number(out, n, block.stationary_gates as u64);
-    let n = gates(out, n, moving, stationary);
-    let n = bytes(out, n, &extra);
-    number(out, n, block.extra_len as u64)
+fn engineering(out: &mut Text, block: Engineering) {
+    out.number(block.moving_gates);
+    out.number(block.stationary_gates);
+    out.numbers(&block.moving_energy);
+    out.numbers(&block.stationary_energy);
+    out.numbers(&block.extra);
+    out.number(block.extra_len);
 }
 
-// Puts a byte for each gate, of moving and of stationary targets.
-pub fn gates(out: &mut Text, taken: usize, moving: [u8; GATES], stationary: [u8; GATES]) -> usize {
-    let n = bytes(out, taken, &moving);
-    bytes(out, n, &stationary)
+// Puts the accessors of an engineering block: three valid counts, `light` and `out_pin`.
+fn engineering_accessors(out: &mut Text, block: Engineering) {
+    out.number(block.moving().count);
+    out.number(block.stationary().count);
+    out.number(block.extra().count);
+    there(out, block.light());
+    there(out, block.out_pin());
 }
 
-// Returns the accessors of an engineering block: three valid counts, `light` and `out_pin`.
-fn engineering_accessors(block: Engineering) -> Row {
-    let moving = block.moving();
-    let stationary = block.stationary();
-    let extra = block.extra();
-    let light = byte(block.light());
-    let pin = byte(block.out_pin());
-    [
-        moving.count as u64,
-        stationary.count as u64,
-        extra.count as u64,
-        light[0],
-        light[1],
-        pin[0],
-        pin[1],
-    ]
-}
+// A payload, by start and length.
+impl Fields for Span {
+    const COUNT: usize = 2;
 
-// Returns a byte that may be absent: whether it is present, and its value.
-fn byte(byte: MaybeU8) -> [u64; 2] {
-    match byte {
-        MaybeU8::Some(b) => [1, b as u64],
-        MaybeU8::None => [0, 0],
+    fn put(self, out: &mut Text) {
+        out.number(self.start);
+        out.number(self.len);
     }
 }
 
-// Returns an acknowledgement, its payload by start and length.
-pub fn ack(ack: Ack) -> Row {
-    let payload = ack.payload;
-    [
-        ack.word as u64,
-        ack.ok as u64,
-        ack.status as u64,
-        payload.start as u64,
-        payload.len as u64,
-        0,
-        0,
-    ]
+impl Fields for Ack {
+    const COUNT: usize = 5;
+
+    fn put(self, out: &mut Text) {
+        out.number(self.word);
+        out.number(self.ok);
+        out.number(self.status);
+        self.payload.put(out);
+    }
+}
+
+impl Fields for EnableConfig {
+    const COUNT: usize = 2;
+
+    fn put(self, out: &mut Text) {
+        out.number(self.protocol_version);
+        out.number(self.buffer_size);
+    }
+}
+
+impl Fields for FirmwareVersion {
+    const COUNT: usize = 3;
+
+    fn put(self, out: &mut Text) {
+        out.number(self.firmware_type);
+        out.number(self.major);
+        out.number(self.minor);
+    }
+}
+
+impl Fields for Mac {
+    const COUNT: usize = 6;
+
+    fn put(self, out: &mut Text) {
+        out.numbers(&self.0);
+    }
+}
+
+impl Fields for Baud {
+    const COUNT: usize = 2;
+
+    fn put(self, out: &mut Text) {
+        out.number(self.index());
+        out.number(self.bits_per_second());
+    }
 }
 
 // Puts a frame: its kind, its report and its acknowledgement.
-pub fn frame(out: &mut Text, taken: usize, frame: Frame) -> usize {
-    let kind = frame.kind;
-    let n = number(out, taken, kind_number(kind));
-    let n = report(out, n, frame.report);
-    row(out, n, ack(frame.ack), 5)
-}
-
-fn kind_number(kind: FrameKind) -> u64 {
-    match kind {
-        FrameKind::None => 0,
-        FrameKind::Report => 1,
-        FrameKind::Ack => 2,
-    }
+pub fn frame(out: &mut Text, frame: Option<Frame>) {
+    let (kind, report, ack) = match frame {
+        None => (0u8, None, None),
+        Some(Frame::Report(report)) => (1, Some(report), None),
+        Some(Frame::Ack(ack)) => (2, None, Some(ack)),
+    };
+    out.number(kind);
+    row(out, report);
+    row(out, ack);
 }

@@ -1,12 +1,10 @@
 // Ops 6 to 8: the writers of commands, reports and acknowledgements. An argument is a buffer's length, the byte that
-// fills it, and the value that is written.
-use ld2410::{
-    Engineering, Error, MAX_EXTRA, Report, TargetState, WriteResult, write_ack, write_report,
-};
+// fills it, and the value that is written. Each puts the numbers that follow its op.
+use ld2410::{Engineering, Error, Report, TargetState, write_ack, write_report};
 use replay_io::argument::{flag_at, rest, u8_at, u16_at};
-use replay_io::commands::{MaybeCommand, command_in};
-use replay_io::line::{Row, Text, bytes, row};
-use wire::{copy_prefix, gate_array, min};
+use replay_io::commands::command_in;
+use replay_io::line::Text;
+use wire::{gate_array, zero_padded};
 
 // The longest buffer.
 const LONGEST: usize = 65_535;
@@ -21,73 +19,75 @@ const STATIONARY_AT: usize = MOVING_AT + 9;
 
 const EXTRA_AT: usize = STATIONARY_AT + 9;
 
-// Tests whether the argument of an op has a value to write, if the op is a writer's: any acknowledgement is one, so is
-// a report up to state 6, and op 6 tests its command itself.
-pub fn has_value(op: u8, argument: &[u8]) -> bool {
-    match op {
-        7 => u8_at(argument, VALUE_AT) <= 6,
-        _ => true,
-    }
-}
-
-// Returns the bytes of the value.
-pub fn value_in(argument: &[u8]) -> &[u8] {
-    rest(argument, VALUE_AT)
-}
-
-// Writes into a buffer as long as the argument says, and puts the answer and the buffer.
-pub fn write(out: &mut Text, taken: usize, op: u8, argument: &[u8]) -> usize {
+// Writes into a buffer of the argument's length, each byte filled as it says, and puts the refusal, the bytes written or
+// needed, and the buffer.
+fn written<F: FnOnce(&mut [u8]) -> Result<usize, Error>>(out: &mut Text, argument: &[u8], write: F)
+    requires { F.IsAlwaysCallable write }
+{
     let fill = u8_at(argument, 2);
-    let mut buffer: [u8; LONGEST] = [fill; LONGEST];
-    write_in_front(out, taken, op, argument, &mut buffer)
+    let mut longest = [fill; LONGEST];
+    in_front(
+        out,
+        &mut longest,
+        u16_at(argument, 0) as usize,
+        |buffer| match write(buffer) {
+            Ok(count) => (0, count),
+            Err(e) => (e.number(), e.needed()),
+        },
+    );
 }
 
-// Writes into the front of a buffer, as many bytes of it as the argument says.
-fn write_in_front(
+// Lends the first bytes of a buffer to a writer, and puts its two numbers and those bytes.
+pub fn in_front<F: FnOnce(&mut [u8]) -> (u8, usize)>(
     out: &mut Text,
-    taken: usize,
-    op: u8,
-    argument: &[u8],
-    buffer: &mut [u8],
-) -> usize {
-    let end = min(u16_at(argument, 0) as usize, buffer.len());
-    write_to(out, taken, op, value_in(argument), &mut buffer[0..end])
+    longest: &mut [u8],
+    length: usize,
+    write: F,
+)
+    requires { F.IsAlwaysCallable write }
+{
+    let end = length.min(longest.len());
+    let (refusal, count) = write(&mut longest[..end]);
+    out.number(refusal);
+    out.number(count);
+    out.numbers(&longest[..end]);
 }
 
-// Writes into the buffer, and puts the answer and the buffer.
-fn write_to(out: &mut Text, taken: usize, op: u8, value: &[u8], buffer: &mut [u8]) -> usize {
-    let answer = written(op, value, buffer);
-    let n = row(out, taken, answer, 2);
-    bytes(out, n, buffer)
-}
-
-// Writes into the buffer, and returns the refusal, and the bytes written or needed.
-fn written(op: u8, value: &[u8], buffer: &mut [u8]) -> Row {
-    match answer_of(op, value, buffer) {
-        WriteResult::Ok(count) => [0, count as u64, 0, 0, 0, 0, 0],
-        WriteResult::Err(e) => [e.number() as u64, e.needed() as u64, 0, 0, 0, 0, 0],
-    }
-}
-
-// Writes into the buffer: a command, a report, or an acknowledgement by its word, `ok`, status and payload.
-fn answer_of(op: u8, value: &[u8], buffer: &mut [u8]) -> WriteResult {
-    match op {
-        6 => encode(value, buffer),
-        7 => write_report(buffer, report_in(value)),
-        _ => {
-            let word = u16_at(value, 0);
-            let ok = flag_at(value, 2);
-            write_ack(buffer, word, ok, u16_at(value, 3), rest(value, 5))
+// Answers op 6: encodes a command, and puts its word and size too; `none` if the bytes are no command.
+pub fn encode(out: &mut Text, argument: &[u8]) {
+    match command_in(rest(argument, VALUE_AT)) {
+        Some(command) => {
+            written(out, argument, |buffer| command.encode(buffer));
+            out.number(command.word());
+            out.number(command.encoded_len());
         }
+        None => out.none(),
     }
 }
 
-// Encodes the command that the bytes are. Op 6 does not come here with bytes that are no command.
-fn encode(value: &[u8], buffer: &mut [u8]) -> WriteResult {
-    match command_in(value) {
-        MaybeCommand::Some(command) => command.encode(buffer),
-        MaybeCommand::None => WriteResult::Err(Error::UnknownCommand),
-    }
+// Tests whether the state of a report's value, if there is one, has a number.
+pub fn has_report(argument: &[u8]) -> bool {
+    u8_at(argument, VALUE_AT) <= 6
+}
+
+// Answers op 7: writes a report.
+pub fn report(out: &mut Text, argument: &[u8]) {
+    let report = report_in(rest(argument, VALUE_AT));
+    written(out, argument, |buffer| write_report(buffer, report));
+}
+
+// Answers op 8: writes an acknowledgement, by its word, `ok`, status and payload.
+pub fn ack(out: &mut Text, argument: &[u8]) {
+    let value = rest(argument, VALUE_AT);
+    written(out, argument, |buffer| {
+        write_ack(
+            buffer,
+            u16_at(value, 0),
+            flag_at(value, 2),
+            u16_at(value, 3),
+            rest(value, 5),
+        )
+    });
 }
 
 // Builds the report from its fields.
@@ -106,14 +106,12 @@ fn report_in(value: &[u8]) -> Report {
 
 // Builds its engineering block.
 fn engineering_in(value: &[u8]) -> Engineering {
-    let mut extra: [u8; MAX_EXTRA] = [0; MAX_EXTRA];
-    copy_prefix(&mut extra, rest(value, EXTRA_AT));
     Engineering {
         moving_gates: u8_at(value, MOVING_AT - 2),
         stationary_gates: u8_at(value, MOVING_AT - 1),
         moving_energy: gate_array(rest(value, MOVING_AT)),
         stationary_energy: gate_array(rest(value, STATIONARY_AT)),
-        extra,
+        extra: zero_padded(rest(value, EXTRA_AT)),
         extra_len: u8_at(value, EXTRA_AT + 8),
     }
 }
