@@ -2,25 +2,14 @@
 ghost use Rattle.std.specs.Prelude.{◌≡◌, true, ◌≤◌, ◌<◌};
 ghost use Rattle.stream.specs.Length.{link_limit};
 ghost use Rattle.scan.specs.Scan.{well_formed};
-ghost use Rattle.scan.specs.Start.{continued, taking_of};
+ghost use Rattle.scan.specs.Start.{taking_of};
 ghost use Rattle.step.specs.Step.{step_len, step_data, stored};
 
-use crate::counts::{abandon, start};
+use crate::counts::{abandon, continued, start};
 use crate::scans::{in_data, in_len};
 use scan::{Scan, Scanned, State, Stats, Stepped};
 use stream::in_range;
 use wire::{Kind, MAX_FRAME};
-
-// Returns a step that ends no frame.
-pub(crate) fn continued(scan: Scan, stats: Stats) -> Stepped
-    ensures stepped { result ≡ continued scan stats }
-{
-    Stepped {
-        scan,
-        stats,
-        ended: None,
-    }
-}
 
 // Turns a step into a run that took `taken` bytes.
 pub(crate) fn taking(stepped: Stepped, taken: usize) -> Scanned

@@ -1,6 +1,5 @@
 // The engine of branches: a byte where a header or tail is matched is compared with the one that is due.
-use crate::body::continued;
-use crate::counts::{abandon, start};
+use crate::counts::{abandon, continued, start};
 use crate::engines::{Engine, Matcher};
 use crate::scans::{in_header, in_len, in_tail};
 use scan::{Ended, Scan, Scanned, Stats, Stepped, hunting, or_reset};

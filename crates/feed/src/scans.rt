@@ -3,7 +3,7 @@ ghost use Rattle.std.specs.Prelude.{◌≡◌};
 ghost use Rattle.scan.specs.Scan.{at, data_at};
 ghost use Rattle.scan.specs.declared.State.TheVariants.{Header, Len, Tail};
 
-use scan::{Scan, State, hunting};
+use scan::{Scan, State};
 use wire::Kind;
 
 // Returns a scan in a header, with `matched` of its bytes taken.
@@ -11,9 +11,11 @@ pub(crate) fn in_header(kind: Kind, matched: usize) -> Scan
     ensures made { result ≡ at Header kind matched 0 0 }
 {
     Scan {
+        state: State::Header,
         kind,
         matched,
-        ..hunting()
+        len: 0,
+        pos: 0,
     }
 }
 

@@ -7,7 +7,8 @@ ghost use Rattle.step.specs.Phase.{AtState, PartialRun, DataRun};
 ghost use Rattle.scan.specs.declared.State.TheVariants.{Data, Tail};
 
 use super::Branches;
-use crate::body::{continued, step_data, step_len, taking};
+use crate::body::{step_data, step_len, taking};
+use crate::counts::continued;
 use crate::engines::Matcher;
 use crate::scans::{in_data, in_tail};
 use scan::{Scan, Scanned, State, Stats};
@@ -44,11 +45,10 @@ fn take_data(
 fn stays(state: State, next: State) -> bool
     ensures same { result ≡ true → (next ≡ Tail) ⊎ (next ≡ state) }
 {
-    match next {
-        State::Header | State::Len => next == state,
-        State::Data => false,
-        State::Tail => true,
-    }
+    matches!(
+        (next, state),
+        (State::Header, State::Header) | (State::Len, State::Len) | (State::Tail, _)
+    )
 }
 
 // Takes the bytes of a part that is not stored: a header, a length or a tail. The arm for data is never taken; a step
@@ -70,7 +70,7 @@ fn take_part(scan: Scan, stats: Stats, bytes: &[u8], from: usize) -> Scanned
             State::Tail => Branches.tail(kind, at.matched, at.len, counted, bytes[i]),
         };
         i += 1;
-        if i == bytes.len() || !stays(state, stepped.scan.state) {
+        if !stays(state, stepped.scan.state) || i >= bytes.len() {
             break taking(stepped, i);
         }
         at = stepped.scan;
