@@ -109,7 +109,8 @@ module _ (s : List ℕ) (ts : List Target) where
     pub value : three_of (held_in s) ≡ ts
 
   read_by : (p : Bool) → is_frame s ≡ p → ReadAs s ts → Read
-  read_by true e r = record { frame = e; value = ap (λ x. (returned no_targets x).value) (sym (parsed_frame_lem s e) ∙ r) }
+  read_by true e r =
+      record { frame = e; value = ap (λ x. (returned no_targets x).value) (sym (parsed_frame_lem s e) ∙ r) }
   read_by false e r =
       let z : ◌≡◌ {A = ℕ} 1 0 = ap refusal_of (sym (parsed_other s e) ∙ r) in
       absurd (omega arith)

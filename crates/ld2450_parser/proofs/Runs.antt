@@ -1,18 +1,20 @@
 -- The run of a slice, from any of its bytes on: the loop's invariant, and the outcome at each of its exits.
 --   later i r   the outcome r, if i bytes were taken before
---   Left        after i of the bytes, the run of the rest from the parser p has the outcome `all`, that of all the bytes
+--   Left        after i of the bytes, the run of the rest from the parser p has the outcome of all the bytes, `all`
 use mathlib.Core.Path.{◌≡◌, ap, ◌∙◌}
 use mathlib.Core.List.{List, [], ◌∷◌}
-use mathlib.Core.Bool.{true, false}
+use mathlib.Core.Bool.{Bool, true, false}
 use Prim.Native.Nat.{ℕ, suc, ◌+◌, ◌<◌}
 use native.Mathlib.Numerals.{add-one}
 use native.Mathlib.Omega.{arith}
 use native.Mathlib.Nat.{zero-add}
 use lib.ListN.{length, get_or, drop}
 use lib.Seq.{drop-cons, drop-length}
-use Rattle.std.specs.Prelude.{is_some}
+use Rattle.std.specs.Prelude.{Some}
+use Rattle.ld2450.specs.Target.{three_of}
 use Rattle.ld2450_parser.specs.Stream.{Answer, nothing}
-use Rattle.ld2450_parser.specs.Feed.{stepped, run_of}
+use Rattle.ld2450_parser.specs.Feed.{put, progress_of, step_of, stored, answer_if, stepped, run_of}
+use Rattle.ld2450_parser.specs.declared.steps.Progress.{Progress}
 use Rattle.ld2450_parser.specs.declared.Parser.{Parser}
 use Rattle.ld2450_parser.specs.declared.Fed.{Fed}
 use Rattle.ld2450_parser.specs.declared.Taken.{Taken}
@@ -41,18 +43,23 @@ module _ (p : Parser) (bs : List ℕ) where
       x.came ∙ ap (λ (l : List ℕ). later i (run_of p l)) none ∙ run-nil i p ∙ ap (λ k. slice_to p k nothing) e
 
   -- The next byte: the step, and then what is left.
-  module _ {all : Fed Taken} (i : ℕ) (x : Left all p bs i) (u : i < length bs) (q : Parser) (a : Answer)
-      (qe : q ≡ (stepped p (get_or bs i 0)).parser) (ae : a ≡ (stepped p (get_or bs i 0)).answer) where
+  module _ {all : Fed Taken} (i : ℕ) (x : Left all p bs i) (u : i < length bs) (g : Progress) (d : List ℕ)
+      (ge : g ≡ progress_of (step_of p.at p.stats (get_or bs i 0))) (de : d ≡ stored p.at p.buf (get_or bs i 0))
+      (e : Bool) (ee : e ≡ (step_of p.at p.stats (get_or bs i 0)).ended) where
     next : all ≡ later i (run_of p (get_or bs i 0 ∷ drop (suc i) bs))
     next = x.came ∙ ap (λ (l : List ℕ). later i (run_of p l)) (drop-cons bs i 0 u)
 
-    pub left_frame : is_some a ≡ true → all ≡ slice_to q (i + 1) a
-    unfolding run_of
-    left_frame e = next ∙ rw (← qe, ← ae, e)
+    one : stepped p (get_or bs i 0) ≡ record { parser = put d g.at g.stats; answer = answer_if e d }
+    unfolding stepped
+    one = rw (ge, de, ee)
 
-    pub left_on : is_some a ≡ false → Left all q bs (i + 1)
-    unfolding run_of
-    left_on e =
-        let rest = run_of q (drop (suc i) bs) in
-        let one : i + suc rest.answer.count ≡ suc i + rest.answer.count = omega arith in
-        record { came = next ∙ rw (← qe, ← ae, e, add-one) (ap (λ k. slice_to rest.parser k rest.answer.frame) one) }
+    pub left_frame : e ≡ true → all ≡ slice_to (put d g.at g.stats) (i + 1) (Some (three_of d))
+    unfolding run_of answer_if
+    left_frame t = next ∙ rw (one, t)
+
+    pub left_on : e ≡ false → Left all (put d g.at g.stats) bs (i + 1)
+    unfolding run_of answer_if
+    left_on t =
+        let rest = run_of (put d g.at g.stats) (drop (suc i) bs) in
+        let more : i + suc rest.answer.count ≡ suc i + rest.answer.count = omega arith in
+        record { came = next ∙ rw (one, t, add-one) (ap (λ k. slice_to rest.parser k rest.answer.frame) more) }

@@ -6,6 +6,7 @@
 --   among n x y        x at a place of the targets, y at one of the header or the tail
 --   due_at n            the byte that is due at a place of the header or the tail
 --   Stepped            what a step leaves: the place and the counters; and whether it ended a frame
+--   progress_of s      the place and the counters that the step s leaves
 --   continued n st     the step that leaves the place n and the counters st, and ends no frame
 --   ended st           the step that ends a frame
 --   abandoned st n     the counters after a broken start of n bytes
@@ -15,13 +16,15 @@
 --   stored n buf b     the buffer after the byte b
 --   answer_if e d       the targets of the bytes d if a frame ended, else "no frame"
 --   stepped p b        a parser in range after the byte b, and the answer; run_of p bs, after the slice bs
+--   ran_to p n o        the outcome that leaves the parser p: o bytes end a frame, or all n are taken and end none
 --   then_run one more   `one`, the outcome of a byte, if it ended a frame; else `more` after it
 --   still p            the parser p, its place reset if it is out of range
 --   feed_of p b         any parser after the byte b, and the answer; feed_slice_of p bs, after the slice bs
 --   reset_of p          any parser after a reset
 --   unfinished_of p     the length of the frame in progress
 -- The papers leave this free: a byte of the buffer changes only where a target's byte is stored.
-use Rattle.std.specs.Prelude.{List, [], ◌∷◌, Bool, true, false, cond, ℕ, suc, ◌+◌, ◌-◌, eqb, leb, ltb, get_or, set, replicate, Some, is_some}
+use Rattle.std.specs.Prelude.{List, [], ◌∷◌, Bool, true, false, cond, ℕ, suc, ◌+◌, ◌-◌, eqb, leb, ltb, get_or, set, replicate, Some, None, is_some}
+use Rattle.std.specs.declared.option.Option.{Option}
 use Rattle.wire.specs.Counter.{bumped}
 use Rattle.ld2450.specs.Target.{three_of}
 use Rattle.ld2450.specs.Frame.{header, tail}
@@ -30,6 +33,7 @@ use Rattle.ld2450_parser.specs.declared.Stats.{Stats}
 use Rattle.ld2450_parser.specs.declared.Parser.{Parser}
 use Rattle.ld2450_parser.specs.declared.Fed.{Fed}
 use Rattle.ld2450_parser.specs.declared.Taken.{Taken}
+use Rattle.ld2450_parser.specs.declared.steps.Progress.{Progress}
 
 abbrev pub no_stats : Stats
 no_stats = record { frames = 0; resyncs = 0; dropped = 0 }
@@ -53,6 +57,9 @@ pub record Stepped : Type 0 where
   pub at : ℕ
   pub stats : Stats
   pub ended : Bool
+
+abbrev pub progress_of : Stepped → Progress
+progress_of s = record { at = s.at; stats = s.stats }
 
 abbrev pub continued : ℕ → Stats → Stepped
 continued n st = record { at = n; stats = st; ended = false }
@@ -109,6 +116,10 @@ then_run one more = cond (is_some one.answer)
 unfoldable pub run_of : Parser → List ℕ → Fed Taken
 run_of p [] = record { parser = p; answer = record { count = 0; frame = nothing } }
 run_of p (b ∷ bs) = then_run (stepped p b) (run_of (stepped p b).parser bs)
+
+abbrev pub ran_to : Parser → ℕ → Option ℕ → Fed Taken
+ran_to p n None = record { parser = p; answer = record { count = n; frame = nothing } }
+ran_to p n (Some k) = record { parser = p; answer = record { count = k; frame = Some (three_of p.buf) } }
 
 abbrev pub still : Parser → Parser
 still p = put p.buf (or_reset p.at) p.stats

@@ -4,12 +4,12 @@ ghost use Rattle.ld2450_parser.specs.Feed.{feed_of, feed_slice_of, reset_of};
 ghost use Rattle.ld2450_parser.specs.Claims.{FromHere, FromAny, Determined, ResetFirst};
 
 use super::{Parser, Stats, Taken};
-use crate::steps::{HUNTING, or_reset};
-use ld2450::{TARGETS, Target};
+use crate::steps::{HUNTING, Progress, or_reset};
+use ld2450::{TARGETS, Target, read_held};
 
 impl Parser {
     // Feeds as `fed` does, on a parser that is lent: it stays in place, and nothing of its buffer is copied.
-    #[tactic(auto, unfolding(crate::specs::Feed::feed_of))]
+    #[tactic(auto, unfolding(crate::specs::Feed::feed_of, crate::specs::Feed::stepped, crate::specs::Feed::answer_if))]
     pub fn feed(&mut self, byte: u8) -> Option<[Target; TARGETS]>
         ensures fed { (result ≡ (feed_of self.old byte).answer)
             × (self.new ≡ (feed_of self.old byte).parser) }
@@ -21,8 +21,18 @@ impl Parser {
             resyncs,
             dropped,
         } = self.stats;
-        self.at = or_reset(self.at);
-        self.step(byte)
+        let mut progress = Progress {
+            at: or_reset(self.at),
+            stats: self.stats,
+        };
+        let ended = progress.step(&mut self.buf, byte);
+        self.at = progress.at;
+        self.stats = progress.stats;
+        if ended {
+            Some(read_held(&self.buf))
+        } else {
+            None
+        }
     }
 
     // Feeds as `fed_slice` does, on a parser that is lent.
@@ -37,19 +47,22 @@ impl Parser {
             resyncs,
             dropped,
         } = self.stats;
-        self.at = or_reset(self.at);
-        for (i, byte) in bytes.iter().enumerate() {
-            let frame = self.step(*byte);
-            if frame.is_some() {
-                return Taken {
-                    count: i + 1,
-                    frame,
-                };
-            }
-        }
-        Taken {
-            count: bytes.len(),
-            frame: None,
+        let mut progress = Progress {
+            at: or_reset(self.at),
+            stats: self.stats,
+        };
+        let ended = progress.run(&mut self.buf, bytes);
+        self.at = progress.at;
+        self.stats = progress.stats;
+        match ended {
+            Some(count) => Taken {
+                count,
+                frame: Some(read_held(&self.buf)),
+            },
+            None => Taken {
+                count: bytes.len(),
+                frame: None,
+            },
         }
     }
 

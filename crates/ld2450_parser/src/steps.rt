@@ -1,9 +1,11 @@
-// The step of one byte: it goes on with the frame in progress, or breaks it and is tried as a new start.
-ghost use Rattle.std.specs.Prelude.{◌≡◌};
-ghost use Rattle.ld2450_parser.specs.Feed.{or_reset, due_at, abandoned, started, stepped, put};
+// The step of one byte: it goes on with the frame in progress, or breaks it and is tried as a new start. A run of bytes
+// steps them one by one.
+ghost use Rattle.std.specs.Prelude.{◌≡◌, length};
+ghost use Rattle.ld2450_parser.specs.Feed.{or_reset, due_at, abandoned, started, progress_of};
+ghost use Rattle.ld2450_parser.specs.Feed.{step_of, stored, put, run_of, ran_to};
 
-use super::{Parser, Stats};
-use ld2450::{TARGETS, Target, read_held};
+use super::Stats;
+use ld2450::HELD_LEN;
 use wire::bump;
 
 // The `at` of a parser that looks for a header: no byte is pending.
@@ -46,11 +48,19 @@ impl Stats {
     }
 }
 
-impl Parser {
+// Where a parser is: how many bytes of a frame are pending, and the counters. A byte moves these few numbers, and the
+// buffer stays in place.
+#[derive(Clone, Copy)]
+pub(crate) struct Progress {
+    pub at: usize,
+    pub stats: Stats,
+}
+
+impl Progress {
     // Treats `byte` as a possible first byte of a frame.
     #[tactic(auto, unfolding(crate::specs::Feed::started))]
     fn start(&mut self, byte: u8)
-        ensures started { let s = started self.old.stats byte in self.new ≡ put self.old.buf s.at s.stats }
+        ensures started { self.new ≡ progress_of (started self.old.stats byte) }
     {
         if byte == 0xAA {
             self.at = 1;
@@ -60,26 +70,42 @@ impl Parser {
         }
     }
 
-    // Takes one byte. The answer is the targets of the frame that it ended, or none. A byte of a target is stored,
+    // Takes one byte, with the buffer lent, and returns whether it ended a frame. A byte of a target is stored,
     // whatever it is; where one of the header or the tail is due, another breaks the frame.
-    #[tactic(auto, unfolding(crate::specs::Feed::stepped, crate::specs::Feed::step_of, crate::specs::Feed::stored, crate::specs::Feed::where_due, crate::specs::Feed::started, crate::specs::Feed::answer_if))]
-    pub(crate) fn step(&mut self, byte: u8) -> Option<[Target; TARGETS]>
-        ensures stepped { (result ≡ (stepped self.old byte).answer)
-            × (self.new ≡ (stepped self.old byte).parser) }
+    #[tactic(auto, unfolding(crate::specs::Feed::step_of, crate::specs::Feed::stored, crate::specs::Feed::where_due, crate::specs::Feed::started))]
+    pub(crate) fn step(&mut self, buf: &mut [u8; HELD_LEN], byte: u8) -> bool
+        ensures stepped { let s = step_of self.old.at self.old.stats byte in
+            (self.new ≡ progress_of s) × (result ≡ s.ended) }
+        ensures stored { buf.new ≡ stored self.old.at buf.old byte }
     {
-        let at = self.at;
-        if (4..28).contains(&at) {
-            self.buf[at - 4] = byte;
-        } else if byte != due(at) {
-            self.stats.abandon(at);
-            self.start(byte);
-            return None;
-        } else if at >= 29 {
-            self.at = HUNTING;
-            self.stats.frames = bump(self.stats.frames, 1);
-            return Some(read_held(&self.buf));
+        match self.at {
+            4..28 => buf[self.at - 4] = byte,
+            at if byte != due(at) => {
+                self.stats.abandon(at);
+                self.start(byte);
+                return false;
+            }
+            0..29 => {}
+            _ => {
+                self.at = HUNTING;
+                self.stats.frames = bump(self.stats.frames, 1);
+                return true;
+            }
         }
-        self.at = at + 1;
+        self.at += 1;
+        false
+    }
+
+    // Takes bytes up to and including the first that ends a frame, and returns how many; `None` if none ends one.
+    pub(crate) fn run(&mut self, buf: &mut [u8; HELD_LEN], bytes: &[u8]) -> Option<usize>
+        ensures ran { run_of (put buf.old self.old.at self.old.stats) bytes.now
+            ≡ ran_to (put buf.new self.new.at self.new.stats) (length bytes.now) result }
+    {
+        for (i, byte) in bytes.iter().enumerate() {
+            if self.step(buf, *byte) {
+                return Some(i + 1);
+            }
+        }
         None
     }
 }

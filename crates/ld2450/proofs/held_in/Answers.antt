@@ -9,7 +9,10 @@ returns-in_err-strip_prefix c =
 pub returns-in_err-strip_suffix : goal.returns-in_err-strip_suffix
 returns-in_err-strip_suffix c =
     let rest = c.in_ok-strip_prefix.ensures.cases in
-    record { found = rw c.from_residual-in_err-strip_suffix.ensures (tail_off _ _ rest.1 c.in_err-strip_suffix.ensures.cases) }
+    record {
+      found = rw c.from_residual-in_err-strip_suffix.ensures
+          (tail_off _ _ rest.1 c.in_err-strip_suffix.ensures.cases);
+    }
 
 pub returns : goal.returns
 returns c =

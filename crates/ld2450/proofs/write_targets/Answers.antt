@@ -14,14 +14,16 @@ pub returns-then-not-all_writable : goal.returns-then-not-all_writable
 returns-then-not-all_writable c =
     let ts = c.args.targets in
     let typed = targets_typed ts _ c.well_formed.1.0 in
-    sends ts typed _ _ (round_refused (agreed ts typed) _ (sym c.all_writable.ensures.tested ∙ c.if-not-all_writable.true))
+    let bad = sym c.all_writable.ensures.tested ∙ c.if-not-all_writable.true in
+    sends ts typed _ _ (round_refused (agreed ts typed) _ bad)
 
 pub returns-then-out-lt-FRAME_LEN : goal.returns-then-out-lt-FRAME_LEN
 returns-then-out-lt-FRAME_LEN c =
     let ts = c.args.targets in
     let typed = targets_typed ts _ c.well_formed.1.0 in
     let short = wrote_short (targets_frame ts) _ 30 (sym (frame_size ts typed.size)) c.if-out-lt-FRAME_LEN.true in
-    sends ts typed _ _ (round_wrote (agreed ts typed) _ _ (sym c.all_writable.ensures.tested ∙ c.if-not-all_writable.false) short)
+    let good = sym c.all_writable.ensures.tested ∙ c.if-not-all_writable.false in
+    sends ts typed _ _ (round_wrote (agreed ts typed) _ _ good short)
 
 pub returns : goal.returns
 returns c =
@@ -33,4 +35,5 @@ returns c =
     c.target_bytes-3.ensures.little c.put.ensures.left c.put-2.ensures.left c.put-3.ensures.left c.put-4.ensures.left
     c.put-5.ensures.left in
     let whole = wrote_whole (targets_frame ts) _ 30 _ (sym (frame_size ts n)) room left in
-    sends ts typed _ _ (round_wrote (agreed ts typed) _ _ (sym c.all_writable.ensures.tested ∙ c.if-not-all_writable.false) whole)
+    let good = sym c.all_writable.ensures.tested ∙ c.if-not-all_writable.false in
+    sends ts typed _ _ (round_wrote (agreed ts typed) _ _ good whole)

@@ -1,36 +1,21 @@
--- `ld2450_parser::Parser::feed_slice` meets its contract. The loop's invariant is `Left`: the run of the remaining bytes
--- has the outcome of the run of all. Assumes nothing.
-use mathlib.Core.Path.{refl, sym, ◌∙◌}
+-- `ld2450_parser::Parser::feed_slice` meets its contract: a place out of range is reset first, and the parser's type
+-- says what demand 3 asks of it. Assumes nothing.
+use mathlib.Core.Path.{refl}
 use native.Mathlib.Omega.{arith}
 use Rattle.ld2450_parser.specs.Feed.{feed_slice_of}
 use Rattle.ld2450_parser.proofs.Known.{known_any}
-use Rattle.ld2450_parser.proofs.Runs.{left_start, left_end, left_frame, left_on}
 use Rattle.ld2450_parser.proofs.Parser.feed_slice.Goals as goal
 
-pub loop-i-init : goal.loop-i-init
-loop-i-init c = left_start _ _
-
-pub loop-i-preserved : goal.loop-i-preserved
-loop-i-preserved c =
-    let did = c.step-frame.ensures.stepped in
-    left_on _ _ _ c.loop-i.invariant c.loop-i-test.true _ _ did.1 did.0 (sym c.is_some.ensures ∙ c.if-is_some.false)
-
-pub returns-then-is_some : goal.returns-then-is_some
+pub returns-in-Some : goal.returns-in-Some
 unfolding feed_slice_of
-returns-then-is_some c =
-    let did = c.step-frame.ensures.stepped in
-    let ended = sym c.is_some.ensures ∙ c.if-is_some.true in
-    let all = left_frame _ _ _ c.loop-i.invariant c.loop-i-test.true _ _ did.1 did.0 ended in
-    record {
-      fed = rw (← c.or_reset-self.ensures.or_reset, all) (refl, refl);
-      any = known_any c.args.self.now (omega arith) (omega arith) (omega arith) (omega arith);
-    }
+returns-in-Some c = record {
+  fed = rw (c.read_held.ensures.read, ← c.or_reset.ensures.or_reset, c.in-Some.ensures.ran) (refl, refl);
+  any = known_any c.args.self.now (omega arith) (omega arith) (omega arith) (omega arith);
+}
 
-pub returns : goal.returns
+pub returns-in-None : goal.returns-in-None
 unfolding feed_slice_of
-returns c =
-    let all = left_end _ _ _ c.loop-i.invariant (omega arith) in
-    record {
-      fed = rw (← c.or_reset-self.ensures.or_reset, all) (refl, refl);
-      any = known_any c.args.self.now (omega arith) (omega arith) (omega arith) (omega arith);
-    }
+returns-in-None c = record {
+  fed = rw (← c.or_reset.ensures.or_reset, c.in-None.ensures.ran) (refl, refl);
+  any = known_any c.args.self.now (omega arith) (omega arith) (omega arith) (omega arith);
+}
