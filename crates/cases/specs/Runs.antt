@@ -3,7 +3,8 @@
 -- run with a reset is a row of the document.
 --   acknowledged      the published acknowledgement of `EnableConfig`
 --   b_in x             B with the state byte x
---   report_in t        what B is read as, in the state t: "120 cm at 60, 150 cm at 45, detection 200 cm"
+--   read_in t          what B's data are read as, in the state t: "120 cm at 60, 150 cm at 45, detection 200 cm"
+--   report_in t        what B is read as, in the state t
 --   b_report           what B is read as: "both targets"
 --   engineering_in x   the published engineering report with the state byte x
 --   engineering_report_in t   what it is read as, in the state t
@@ -17,6 +18,7 @@ use Rattle.engineering.specs.Block.{no_engineering}
 use Rattle.target_state.specs.declared.TargetState.{TargetState}
 use Rattle.target_state.specs.declared.TargetState.TheVariants.{Both, CalibrationRunning, CalibrationDone}
 use Rattle.target_state.specs.declared.TargetState.TheVariants.{CalibrationFailed}
+use Rattle.report.specs.declared.Report.{Report}
 use Rattle.frame.specs.declared.Frame.{Frame}
 use Rattle.frame.specs.declared.Frame.TheVariants as Is
 use Rattle.engine.specs.Calls.{Call, feed, slice, reset, Did, fed, sliced, cleared}
@@ -34,8 +36,8 @@ acknowledged = 0xFD ∷ 0xFC ∷ 0xFB ∷ 0xFA ∷ 0x08 ∷ 0x00 ∷ 0xFF ∷ 0x
 abbrev pub b_in : ℕ → List ℕ
 b_in x = take 8 b ++ (x ∷ drop 9 b)
 
-abbrev pub report_in : TargetState → Frame
-report_in t = Is.Report (record {
+abbrev pub read_in : TargetState → Report
+read_in t = record {
   state = t;
   moving_distance_cm = 120;
   moving_energy = 60;
@@ -44,7 +46,10 @@ report_in t = Is.Report (record {
   detection_distance_cm = 200;
   has_engineering = false;
   engineering = no_engineering;
-})
+}
+
+abbrev pub report_in : TargetState → Frame
+report_in t = Is.Report (read_in t)
 
 abbrev pub b_report : Frame
 b_report = report_in Both

@@ -2,6 +2,7 @@
 -- are one event: what is answered, and where it leads.
 --   ack w on       the module's acknowledgement of the word w, with `ok` on or off
 --   report         a report that comes between
+--   mixed          a report made by hand, with the acknowledgement of `EnableConfig` beside it
 --   unanswered     the answer of a feed by which no frame ended
 --   number_only k   "returned with the answer's other fields 0"
 --   wrote n        nothing is refused, and n bytes are written
@@ -26,7 +27,10 @@ use Rattle.session.specs.declared.Session.TheVariants.{Closed, Opening, Open, Wa
 use Rattle.session.specs.declared.ReceiveResult.TheVariants.{Passed, Ended}
 use Rattle.session.specs.Machine.{Event, send, frame, give_up, Response, sent, received, gave_up}
 use Rattle.cases.specs.Row.{Talk}
-use Rattle.cases.specs.Runs.{b_report}
+use Rattle.session.specs.Parts.{frame_in}
+use Rattle.wire.specs.declared.Kind.TheVariants as Family
+use Rattle.target_state.specs.declared.TargetState.TheVariants.{Both}
+use Rattle.cases.specs.Runs.{b_report, read_in}
 use Rattle.cases.specs.Commands.{buffer, enable_frame, end_frame}
 
 abbrev ack : ℕ → Bool → Event
@@ -35,6 +39,13 @@ ack w on =
 
 abbrev report : Event
 report = frame (Some b_report)
+
+abbrev mixed : Event
+mixed = frame (frame_in (record {
+  kind = Some Family.Report;
+  report = read_in Both;
+  ack = record { word = 0x00FF; ok = true; status = 0; payload = record { start = 4; len = 0 } };
+}))
 
 abbrev unanswered : Event
 unanswered = frame None
@@ -116,6 +127,7 @@ singles =
     ∷ passing Closed report
     ∷ passing Open report
     ∷ passing Opening report
+    ∷ passing Opening mixed
     ∷ passing Opening unanswered
     ∷ passing Closing report
     -- "The station may give up a wait, which closes the session; giving up with no wait on changes nothing"

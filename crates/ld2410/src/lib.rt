@@ -7,7 +7,7 @@
 pub use wire::{ACK_BIT, GATES, Kind, MAX_DATA, MAX_EXTRA, MAX_FRAME, word};
 
 // Refusals.
-pub use refusal::Error;
+pub use refusal::{Error, refusal_number};
 
 // Reports.
 pub use engineering::{Engineering, ExtraBytes};
@@ -33,7 +33,7 @@ pub use command::{Baud, Command, Gate};
 pub use command_reader::read_command;
 
 // The conversation.
-pub use session::{ReceiveResult, Received, Sent, Session, SessionError};
+pub use session::{FrameParts, ReceiveResult, Received, Sent, Session, SessionError};
 
 // The added writers.
 pub use ack_writer::write_ack;

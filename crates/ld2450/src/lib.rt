@@ -16,7 +16,7 @@ ghost use Rattle.ld2450.specs.Bytes.{all_writable, unrepresentable, targets_fram
 ghost use Rattle.ld2450.specs.RoundTrip.{target_frames};
 ghost use Rattle.ld2450.specs.Claims.{Examples, WrittenExample};
 
-pub use refusal::Error;
+pub use refusal::{Error, refusal_number};
 pub use targets::Target;
 use targets::{target_bytes, target_of, writable};
 use writer::put;

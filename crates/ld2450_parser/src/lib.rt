@@ -3,7 +3,9 @@
 
 #![tactic(auto)]
 
-pub use ld2450::{Error, FRAME_LEN, HELD_LEN, TARGETS, Target, read_targets, write_targets};
+pub use ld2450::{
+    Error, FRAME_LEN, HELD_LEN, TARGETS, Target, read_targets, refusal_number, write_targets,
+};
 
 mod lent;
 mod steps;

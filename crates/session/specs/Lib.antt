@@ -1,4 +1,5 @@
 pub mod Machine
 pub mod Returned
 pub mod Session
+pub mod Parts
 pub mod Claims

@@ -4,6 +4,7 @@
 
 #![tactic(auto)]
 
+mod parts;
 mod receiving;
 mod sending;
 
@@ -17,6 +18,7 @@ ghost use Rattle.session.specs.declared.Session.TheVariants as Session;
 ghost use Rattle.session.specs.declared.SessionError.TheVariants as Why;
 
 use command::Command;
+pub use parts::FrameParts;
 use refusal::Error;
 use wire::word;
 
