@@ -26,10 +26,10 @@ pub fn feed_all(parser: Parser, bytes: &[u8]) -> Parser
     ensures counted { FedAll (pending_by link_limit parser) parser bytes.now result }
 {
     let mut fed = parser;
-    let mut i = 0;
-    while i < bytes.len() {
-        let taken = fed.feed_slice(&bytes[i..]);
-        i += taken.count;
+    let mut rest = bytes;
+    while !rest.is_empty() {
+        let taken = fed.feed_slice(rest);
+        rest = &rest[taken.count..];
     }
     fed
 }
