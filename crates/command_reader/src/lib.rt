@@ -100,6 +100,7 @@ fn candidate_in(bytes: &[u8]) -> Command
 fn if_encodes_to(command: Command, bytes: &[u8]) -> Result<Command, Error>
     ensures read { result ≡ if_encodes_to bytes.now command }
 {
+    // An array with what `encode` says of it: the link has no heap.
     let mut frame = [0; MAX_COMMAND];
     let Ok(n) = command.encode(&mut frame) else {
         return Err(Error::UnknownCommand);

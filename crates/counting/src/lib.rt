@@ -19,7 +19,7 @@ use std::{fmt, io};
 
 // Feeds all of `bytes`: a slice feed stops after each whole frame, and is called again with the rest. Any parser is
 // left as by feeding the bytes one by one, and has counted what demand 3 says; no bytes leave it as it was. The loop
-// lends the parser, so that no turn copies it.
+// lends the parser, so that no turn copies it; it moves on by what a feed took, so no `for` is plainer.
 pub fn feed_all(parser: Parser, bytes: &[u8]) -> Parser
     ensures fed { result ≡ left parser (feeds bytes.now) }
     ensures bytes { Bytes bytes.now }
@@ -73,7 +73,7 @@ fn read_some<R: Read>(input: &mut R, parser: Parser) -> Turn
 }
 
 // Reads until the buffer is full or nothing more comes, and returns how many bytes are then in front. A read that fails
-// counts as the end of the input.
+// counts as the end of the input. The loop moves on by what a read gave, so no `for` is plainer.
 pub fn read_full<R: Read>(input: &mut R, buf: &mut [u8]) -> usize
     ensures inside { result ≤ length buf.new }
 {
@@ -89,8 +89,8 @@ pub fn read_full<R: Read>(input: &mut R, buf: &mut [u8]) -> usize
     filled
 }
 
-// Feeds all that can be read from `input` to a fresh parser. A proved loop must end, and nothing says that an input does.
-// So the loop counts its turns, up to a number that no run reaches.
+// Feeds all that can be read from `input` to a fresh parser. A proved loop must end, and nothing says that an input
+// does. So the loop counts its turns, up to a number that no run reaches.
 pub fn read_all<R: Read>(input: &mut R) -> Parser
     ensures reached { Reached fresh result }
     ensures line { Line (counts_of result) }
@@ -146,8 +146,8 @@ impl fmt::Display for Counts {
     }
 }
 
-// Prints the line `frames resyncs dropped malformed unfinished`, and a line feed after it. Returns the numbers on it; no
-// contract can name what is printed. What a writer refuses is lost.
+// Prints the line `frames resyncs dropped malformed unfinished`, and a line feed after it. Returns the numbers on it;
+// no contract can name what is printed. What a writer refuses is lost.
 pub fn print_counts<W: Write>(out: &mut W, parser: Parser) -> Counts
     ensures told { result ≡ counts_of parser }
 {

@@ -15,10 +15,11 @@ use Rattle.step.specs.Slice.{Run, run_of}
 use Rattle.scan.specs.declared.Scan.{Scan}
 use Rattle.scan.specs.declared.stats.Stats.{Stats}
 use Rattle.scan.specs.declared.stats.Ended.{Ended}
+use Rattle.frame.specs.declared.Frame.{Frame}
 use Rattle.feed.specs.declared.feeding.Moved.{Moved}
-use Rattle.feed.specs.declared.feeding.MovedSlice.{MovedSlice}
+use Rattle.feed.specs.declared.feeding.Taken.{Taken}
 
-abbrev pub emitted : Option Ended → Scan → Stats → List ℕ → Moved
+abbrev pub emitted : Option Ended → Scan → Stats → List ℕ → Moved (Option Frame)
 emitted None c st buf = record { scan = c; stats = st; answer = None }
 emitted (Some e) c st buf = record {
   scan = c;
@@ -29,12 +30,12 @@ emitted (Some e) c st buf = record {
 unfoldable pub buf_of : ℕ → Scan → List ℕ → ℕ → List ℕ
 buf_of limit c buf b = stored (or_reset limit c) buf b
 
-unfoldable pub moved_of : ℕ → Scan → Stats → List ℕ → ℕ → Moved
+unfoldable pub moved_of : ℕ → Scan → Stats → List ℕ → ℕ → Moved (Option Frame)
 moved_of limit c st buf b =
     let r = step_of limit (or_reset limit c) st b in
     emitted r.ended r.scan r.stats (stored (or_reset limit c) buf b)
 
-abbrev pub run_moved : Run → MovedSlice
+abbrev pub run_moved : Run → Moved Taken
 run_moved r =
     let m = emitted r.scanned.ended r.scanned.scan r.scanned.stats r.buf in
     record { scan = m.scan; stats = m.stats; answer = record { count = r.scanned.taken; frame = m.answer } }
@@ -42,5 +43,5 @@ run_moved r =
 unfoldable pub slice_buf_of : ℕ → Scan → Stats → List ℕ → List ℕ → List ℕ
 slice_buf_of limit c st buf bs = (run_of limit (or_reset limit c) st buf bs).buf
 
-unfoldable pub slice_moved_of : ℕ → Scan → Stats → List ℕ → List ℕ → MovedSlice
+unfoldable pub slice_moved_of : ℕ → Scan → Stats → List ℕ → List ℕ → Moved Taken
 slice_moved_of limit c st buf bs = run_moved (run_of limit (or_reset limit c) st buf bs)

@@ -11,7 +11,8 @@ use scan::{Scan, Scanned, State, Stats, Stepped};
 use wire::{Kind, MAX_FRAME};
 
 // An engine. Both give the same, so that calls of both may follow each other. A scan with a number out of range is
-// handled as if reset came first.
+// handled as if reset came first. Buffer, scan and counters stand side by side, as in `feed_at`: what changes is a few
+// numbers, which stay out of memory.
 pub trait Engine {
     // Takes one byte, with the buffer lent.
     fn step(buf: &mut [u8; MAX_FRAME], scan: Scan, stats: Stats, byte: u8) -> Stepped
@@ -25,7 +26,8 @@ pub trait Engine {
             in (result ≡ run.scanned) × (buf.new ≡ run.buf) };
 }
 
-// What an engine matches headers and tails with. Length and data are counted alike by both.
+// What an engine matches headers and tails with. Length and data are counted alike by both. Each step asks for a
+// well-formed scan: a type of its own for these would be made and taken apart at each byte, since a feed answers any.
 pub(crate) trait Matcher {
     // Takes a byte where a header byte is due.
     fn header(&self, kind: Kind, matched: usize, stats: Stats, byte: u8) -> Stepped
@@ -79,7 +81,8 @@ pub(crate) trait Matcher {
         taking(self.take(buf, scan, stats, bytes[from]), from + 1)
     }
 
-    // Takes the bytes up to and including the first that ends a frame, else all of them.
+    // Takes the bytes up to and including the first that ends a frame, else all of them, by a loop that breaks with the
+    // count, as document 01 requires.
     fn take_slice(
         &self,
         buf: &mut [u8; MAX_FRAME],

@@ -13,12 +13,13 @@ use frame::{Frame, decode_data};
 use scan::{Ended, Scan, Scanned, Stats, Stepped};
 use wire::MAX_FRAME;
 
-// The scan and the counters after a byte was fed, and the frame that it completed, if any.
+// The scan and the counters after a byte or a slice was fed, and the answer: the frame that the byte completed, if any;
+// or what the slice feed took.
 #[derive(Clone, Copy)]
-pub struct Moved {
+pub struct Moved<A> {
     pub scan: Scan,
     pub stats: Stats,
-    pub answer: Option<Frame>,
+    pub answer: A,
 }
 
 // The number of bytes that a slice feed took, and the frame that they completed, if any.
@@ -26,14 +27,6 @@ pub struct Moved {
 pub struct Taken {
     pub count: usize,
     pub frame: Option<Frame>,
-}
-
-// The scan and the counters after a slice was fed, and its answer.
-#[derive(Clone, Copy)]
-pub struct MovedSlice {
-    pub scan: Scan,
-    pub stats: Stats,
-    pub answer: Taken,
 }
 
 // Decodes the frame that ended, from its data at the front of the buffer.
@@ -45,7 +38,7 @@ fn emit(buf: &[u8; MAX_FRAME], ended: Ended) -> Option<Frame>
 }
 
 // Returns the scan and the counters after a step, and the frame that it ended, decoded and counted.
-fn answered(buf: &[u8; MAX_FRAME], stepped: Stepped) -> Moved
+fn answered(buf: &[u8; MAX_FRAME], stepped: Stepped) -> Moved<Option<Frame>>
     ensures answered { result ≡ emitted stepped.ended stepped.scan stepped.stats buf.now }
 {
     let Stepped { scan, stats, ended } = stepped;
@@ -66,12 +59,12 @@ fn answered(buf: &[u8; MAX_FRAME], stepped: Stepped) -> Moved
 
 // Returns the same for the run of a slice that ended a frame. Each slice feed tests by itself whether one ended: tested
 // in a function that both engines share, it makes a called feed slower (bench/run).
-fn with_frame(buf: &[u8; MAX_FRAME], run: Scanned, ended: Ended) -> MovedSlice
+fn with_frame(buf: &[u8; MAX_FRAME], run: Scanned, ended: Ended) -> Moved<Taken>
     requires { run.ended ≡ Some ended }
     ensures answered { result ≡ run_moved (record { scanned = run; buf = buf.now }) }
 {
     let frame = emit(buf, ended);
-    MovedSlice {
+    Moved {
         scan: run.scan,
         stats: count(run.stats, frame.is_some()),
         answer: Taken {
@@ -82,11 +75,11 @@ fn with_frame(buf: &[u8; MAX_FRAME], run: Scanned, ended: Ended) -> MovedSlice
 }
 
 // Returns the same for the run of a slice that ended no frame.
-fn without_frame(run: Scanned) -> MovedSlice
+fn without_frame(run: Scanned) -> Moved<Taken>
     requires { run.ended ≡ None }
     ensures answered { (buf : List ℕ) → result ≡ run_moved (record { scanned = run; buf = buf }) }
 {
-    MovedSlice {
+    Moved {
         scan: run.scan,
         stats: run.stats,
         answer: Taken {
@@ -98,7 +91,12 @@ fn without_frame(run: Scanned) -> MovedSlice
 
 // Feeds one byte, by the engine `E`, to the parser that the lent buffer, the scan and the counters make up.
 #[tactic(auto, unfolding(crate::specs::Moved::moved_of, crate::specs::Moved::buf_of))]
-pub fn feed_by<E: Engine>(buf: &mut [u8; MAX_FRAME], scan: Scan, stats: Stats, byte: u8) -> Moved
+pub fn feed_by<E: Engine>(
+    buf: &mut [u8; MAX_FRAME],
+    scan: Scan,
+    stats: Stats,
+    byte: u8,
+) -> Moved<Option<Frame>>
     ensures moved { (result ≡ moved_of link_limit scan stats buf.old byte)
         × (buf.new ≡ buf_of link_limit scan buf.old byte) }
 {
@@ -114,7 +112,7 @@ pub fn feed_slice_by<E: Engine>(
     scan: Scan,
     stats: Stats,
     bytes: &[u8],
-) -> MovedSlice
+) -> Moved<Taken>
     ensures moved { (result ≡ slice_moved_of link_limit scan stats buf.old bytes.now)
         × (buf.new ≡ slice_buf_of link_limit scan stats buf.old bytes.now) }
 {
@@ -126,7 +124,12 @@ pub fn feed_slice_by<E: Engine>(
 }
 
 // Feeds one byte to the parser that the lent buffer, the scan and the counters make up.
-pub fn feed_at(buf: &mut [u8; MAX_FRAME], scan: Scan, stats: Stats, byte: u8) -> Moved
+pub fn feed_at(
+    buf: &mut [u8; MAX_FRAME],
+    scan: Scan,
+    stats: Stats,
+    byte: u8,
+) -> Moved<Option<Frame>>
     ensures moved { (result ≡ moved_of link_limit scan stats buf.old byte)
         × (buf.new ≡ buf_of link_limit scan buf.old byte) }
 {
@@ -139,7 +142,7 @@ pub fn feed_slice_at(
     scan: Scan,
     stats: Stats,
     bytes: &[u8],
-) -> MovedSlice
+) -> Moved<Taken>
     ensures moved { (result ≡ slice_moved_of link_limit scan stats buf.old bytes.now)
         × (buf.new ≡ slice_buf_of link_limit scan stats buf.old bytes.now) }
 {
@@ -147,7 +150,12 @@ pub fn feed_slice_at(
 }
 
 // Feeds one byte as `feed_at` does, by the table engine.
-pub fn table_feed_at(buf: &mut [u8; MAX_FRAME], scan: Scan, stats: Stats, byte: u8) -> Moved
+pub fn table_feed_at(
+    buf: &mut [u8; MAX_FRAME],
+    scan: Scan,
+    stats: Stats,
+    byte: u8,
+) -> Moved<Option<Frame>>
     ensures moved { (result ≡ moved_of link_limit scan stats buf.old byte)
         × (buf.new ≡ buf_of link_limit scan buf.old byte) }
 {
@@ -160,7 +168,7 @@ pub fn table_feed_slice_at(
     scan: Scan,
     stats: Stats,
     bytes: &[u8],
-) -> MovedSlice
+) -> Moved<Taken>
     ensures moved { (result ≡ slice_moved_of link_limit scan stats buf.old bytes.now)
         × (buf.new ≡ slice_buf_of link_limit scan stats buf.old bytes.now) }
 {

@@ -12,7 +12,7 @@ mod scans;
 
 pub use engines::Engine;
 pub use feeding::{
-    Moved, MovedSlice, Taken, feed_at, feed_by, feed_slice_at, feed_slice_by, table_feed_at,
+    Moved, Taken, feed_at, feed_by, feed_slice_at, feed_slice_by, table_feed_at,
     table_feed_slice_at,
 };
 pub use lookup::Tables;

@@ -19,7 +19,8 @@ pub struct Tables {
     ghost led: { Nexts nexts },
 }
 
-// Returns the matching state after `matched` header bytes.
+// Returns the matching state after `matched` header bytes. One function for header and tail would be passed the number
+// of its first row, and say less.
 fn header_state(kind: Kind, matched: usize) -> usize
     requires { matched ≤ 3 }
     ensures number { result ≡ header_state kind matched }

@@ -21,9 +21,7 @@ pub use reply::{EnableConfig, FirmwareVersion, Mac, Parameters};
 
 // Whole frames, and the stream. `feed_at` and `feed_slice_at`, and those of the table engine, take a parser in its
 // parts, with the buffer lent: a loop over them copies no buffer.
-pub use feed::{
-    Moved, MovedSlice, Taken, feed_at, feed_slice_at, table_feed_at, table_feed_slice_at,
-};
+pub use feed::{Moved, Taken, feed_at, feed_slice_at, table_feed_at, table_feed_slice_at};
 pub use frame::Frame;
 pub use parser::{Fed, Parser};
 pub use scan::{Scan, State, Stats};

@@ -29,8 +29,8 @@ pub enum Found {
 }
 
 // The next case: the bytes of the buffer from `start` to `end`, of the `read` bytes that were read. If no case is
-// found, it has no bytes. It has places and no slice, since more is read into the buffer after it: the clause `found`
-// of `next_case` names them.
+// found, it has no bytes. It has places and no slice, since more is read into the buffer after it, and `found`
+// beside them, since `NextCase` speaks of the places after any of its values.
 #[derive(Clone, Copy)]
 pub struct Next {
     pub start: usize,
@@ -146,7 +146,7 @@ fn keep(input: &mut [u8], used: usize, end: usize) -> usize
 }
 
 // Reads after the bytes that are kept at the front, until a case is whole or too long, or nothing comes. Returns how
-// many bytes the buffer has then.
+// many bytes the buffer has then. It is a loop, since a read says how far the buffer goes, and nothing is counted.
 #[tactic(auto, using(crate::proofs::Cases::grown_none, crate::proofs::Cases::grown_more))]
 fn fill<R: Read>(from: &mut R, input: &mut [u8], kept: usize) -> usize
     requires inside { kept ≤ length input.old }

@@ -75,10 +75,6 @@ impl<W: Write> Buffer<W> {
     fn decimal(&mut self, value: u64)
         ensures put { self.new ≡ put_all self.old (decimal_of value) }
     {
-        if value < 10 {
-            self.put(b'0' + value as u8);
-            return;
-        }
         let mut digits = [0u8; 20];
         let count = io::decimal(value, &mut digits);
         self.literal(&digits[..count]);

@@ -30,8 +30,8 @@ pub struct Stepped {
     pub ended: Option<Ended>,
 }
 
-// The scan and the counters after a slice, beside the buffer, the frame that it ended, if any, and how many of its bytes
-// were taken.
+// The scan and the counters after a slice, beside the buffer, the frame that it ended, if any, and how many of its
+// bytes were taken.
 #[derive(Clone, Copy)]
 pub struct Scanned {
     pub scan: Scan,

@@ -11,8 +11,8 @@ ghost use Rattle.tables.specs.Table.{Nexts};
 
 pub use class_table::classes;
 
-// The next state: a row for each matching state, a column for each class. Report header, command header, report tail and
-// command tail have four rows each, for 0 to 3 bytes matched. The states 16, 20, 24 and 28 are after all four.
+// The next state: a row for each matching state, a column for each class. Report header, command header, report tail
+// and command tail have four rows each, for 0 to 3 bytes matched. The states 16, 20, 24 and 28 are after all four.
 const NEXT: [[u8; 17]; 16] = [
     [1, 0, 0, 0, 5, 0, 0, 0, 0, 0, 0, 0, 0, 0, 0, 0, 0],
     [1, 2, 0, 0, 5, 0, 0, 0, 0, 0, 0, 0, 0, 0, 0, 0, 0],

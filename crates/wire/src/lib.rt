@@ -41,7 +41,8 @@ pub enum Kind {
     Command,
 }
 
-// A value for each gate; the first `count` are valid.
+// A value for each gate; the first `count` are valid. It is an array with its count, since document 01 asks for these two
+// and the link has no heap.
 #[derive(Clone, Copy)]
 pub struct GateValues {
     pub bytes: [u8; GATES],

@@ -6,7 +6,8 @@ ghost use Rattle.std.specs.Prelude.{◌≡◌, ◌++◌};
 ghost use Rattle.wire.specs.Number.{le_bytes};
 ghost use Rattle.writer.specs.Put.{placed, put_in};
 
-// Returns the two bytes of a number, the lowest first.
+// Returns the two bytes of a number, the lowest first. This and the next give std's bytes in the words of the
+// definitions, `le_bytes`, which no caller then has to prove.
 pub fn u16_bytes(v: u16) -> [u8; 2]
     ensures little { result ≡ le_bytes 2 v }
 {

@@ -52,7 +52,7 @@ fn stays(state: State, next: State) -> bool
 }
 
 // Takes the bytes of a part that is not stored: a header, a length or a tail. The arm for data is never taken; a step
-// of its own there costs the others nothing.
+// of its own there costs the others nothing. It is a loop, since the first step that leaves the part ends it.
 fn take_part(scan: Scan, stats: Stats, bytes: &[u8], from: usize) -> Scanned
     requires { AtState link_limit scan.state scan bytes.now from × (scan.state ≡ Data → ⊥) }
     ensures partial { (buf : List ℕ) → PartialRun link_limit scan stats buf bytes.now from result buf }
