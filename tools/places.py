@@ -102,6 +102,17 @@ def together():
     return [(places[0][0], f"{len(places)} functions: {', '.join(group)}") for group, places in whole.items()]
 
 
+def facts():
+    """Point 5: a fact that three or more functions of a crate require."""
+    places = collections.defaultdict(list)
+    for path, text in sources():
+        for m in re.finditer(r"requires(?: \w+)? \{((?:[^{}]|\{[^{}]*\})*)\}", text):
+            for part in m.group(1).split("×"):
+                fact = " ".join(part.split()).strip("() ")
+                places[path.split(os.sep)[1], fact].append(f"{path}:{text[:m.start()].count(chr(10)) + 1}")
+    return [(at[0], f"{len(at)} functions: {fact}") for (_, fact), at in places.items() if len(at) >= 3]
+
+
 def lengths_beside():
     """Point 6: a buffer or an array with a length or a count beside it."""
     found = matches(r"(\[u(?:8|64); [^\]]+\],?\s*(?:pub )?(?:count|len|taken|read|at): usize)")
@@ -131,7 +142,7 @@ RULES = {
     "2": (twins,),
     "3": (counted_loops,),
     "4": (by_hand,),
-    "5": (together,),
+    "5": (together, facts),
     "6": (lengths_beside,),
     "7": (switches,),
     "8": (proofs,),

@@ -1,4 +1,5 @@
-// The table of the ops.
+// The table of the ops. Each answer takes the text that it puts its numbers to, and the argument that it reads: a struct
+// of the two would be made for one call.
 use crate::scripts::Run;
 use crate::{commands, loads, readers, writers};
 use replay_io::argument::{rest, u8_at};
