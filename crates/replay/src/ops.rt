@@ -1,5 +1,5 @@
-// The table of the ops. Each answer takes the text that it puts its numbers to, and the argument that it reads: a struct
-// of the two would be made for one call.
+// The table of the ops. Each answer takes the text that it puts its numbers to, and the argument that it reads: a
+// struct of the two would be made for one call.
 use crate::scripts::Run;
 use crate::{commands, loads, readers, writers};
 use replay_io::argument::{rest, u8_at};
@@ -33,7 +33,8 @@ pub fn answer(out: &mut Text, case: &[u8]) {
     }
 }
 
-// Puts the line of an op that is not one of scripts; `none` if the op is not in the table or does not take the argument.
+// Puts the line of an op that is not one of scripts; `none` if the op is not in the table or does not take the
+// argument.
 fn one_line(out: &mut Text, number: u8, argument: &[u8]) {
     out.op(number);
     match Op::of(number, argument) {
