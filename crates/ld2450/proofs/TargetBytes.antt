@@ -2,10 +2,9 @@
 use mathlib.Core.Path.{◌≡◌}
 use mathlib.Core.List.{List}
 use mathlib.Core.Bool.{true, ◌&&◌, and-eq-true_iff}
-use Prim.Native.Nat.{ℕ, ◌+◌, ◌-◌, ◌<◌}
-use native.Mathlib.Omega.{arith}
+use Prim.Native.Nat.{ℕ, ◌<◌}
 use lib.IntN.{ℤ}
-use lib.ListN.{take, drop, replicate}
+use lib.ListN.{replicate}
 use lib.Signed.{mag}
 use mir.Syntax.{w16}
 use mir.Val.{to_z, of_z}
@@ -15,10 +14,6 @@ use Rattle.ld2450.specs.Signed.{sayable}
 use Rattle.ld2450.specs.Target.{absent, target_of}
 use Rattle.ld2450.specs.Bytes.{writable}
 use Rattle.ld2450.specs.declared.targets.Target.{Target}
-
--- The eight bytes from a place.
-pub eight_from : (d : List ℕ) (at : ℕ) → take (at + 8 - at) (drop at d) ≡ take 8 (drop at d)
-eight_from d at = let n : at + 8 - at ≡ 8 = omega arith in rw n
 
 -- A number that fits is read back from its bits.
 pub back : (z : ℤ) → mag z < 32768 → to_z w16 (of_z w16 z) ≡ z

@@ -42,7 +42,11 @@ const TAIL: [u8; 2] = [0x55, 0xCC];
 pub fn read_held(held: &[u8; HELD_LEN]) -> [Target; TARGETS]
     ensures read { result ≡ three_of held.now }
 {
-    [target_of(held, 0), target_of(held, 8), target_of(held, 16)]
+    [
+        target_of(&held[0..8]),
+        target_of(&held[8..16]),
+        target_of(&held[16..24]),
+    ]
 }
 
 // Returns the bytes between header and tail, or `None` if the bytes are no frame.

@@ -1,10 +1,10 @@
 // One target, and its eight bytes.
-ghost use Rattle.std.specs.Prelude.{◌≡◌, true, ◌+◌, ◌≤◌, length, take, drop};
+ghost use Rattle.std.specs.Prelude.{◌≡◌, true, ◌+◌, ◌≤◌, length};
 ghost use Rattle.ld2450.specs.Target.{field_at, target_of};
 ghost use Rattle.ld2450.specs.Bytes.{target_bytes, writable};
 
+use crate::TARGET_LEN;
 use crate::signed::{raw_of, sayable, signed};
-use crate::{HELD_LEN, TARGET_LEN};
 use wire::bytes_eq;
 
 // A target; if it is absent, every field is 0.
@@ -30,13 +30,12 @@ fn field(bytes: &[u8], at: usize) -> u16
     u16::from_le_bytes([bytes[at], bytes[at + 1]])
 }
 
-// Reads the target whose eight bytes begin at a place.
-#[tactic(auto, using(crate::proofs::TargetBytes::eight_from, crate::proofs::TargetBytes::back), unfolding(crate::specs::Target::target_of))]
-pub(crate) fn target_of(held: &[u8; HELD_LEN], at: usize) -> Target
-    requires inside { at + 8 ≤ 24 }
-    ensures read { result ≡ target_of (take 8 (drop at held.now)) }
+// Reads the target from its eight bytes.
+#[tactic(auto, using(crate::proofs::TargetBytes::back), unfolding(crate::specs::Target::target_of))]
+pub(crate) fn target_of(bytes: &[u8]) -> Target
+    requires whole { length bytes.now ≡ 8 }
+    ensures read { result ≡ target_of bytes.now }
 {
-    let bytes = &held[at..at + TARGET_LEN];
     if bytes_eq(bytes, &[0; TARGET_LEN]) {
         return Target::default();
     }

@@ -12,24 +12,18 @@ const LONGEST: usize = 65_535;
 // Where the value begins in the argument of the writer, after a buffer's length and the byte that fills it.
 const VALUE_AT: usize = 3;
 
-// Puts what follows the op in its line: its answer, or that it has none, as with an argument that is cut short.
-pub fn fields(out: &mut Text, op: u8, argument: &[u8]) {
-    match op {
-        30 => read(out, argument),
-        31 if argument.len() >= VALUE_AT + VALUE_LEN => write(out, argument),
-        _ => out.none(),
-    }
-}
+// Least bytes of the argument of the writer.
+pub const SHORTEST_WRITTEN: usize = VALUE_AT + VALUE_LEN;
 
-// Answers op 30, on any bytes.
-fn read(out: &mut Text, bytes: &[u8]) {
+// Puts what follows op 30, on any bytes.
+pub fn read(out: &mut Text, bytes: &[u8]) {
     let read = read_targets(bytes);
     out.number(refusal_number(read));
     targets::put(out, read.unwrap_or([Target::default(); TARGETS]));
 }
 
-// Answers op 31: writes into a buffer that is full of one byte.
-fn write(out: &mut Text, argument: &[u8]) {
+// Puts what follows op 31: writes into a buffer that is full of one byte.
+pub fn write(out: &mut Text, argument: &[u8]) {
     let mut buffer = [u8_at(argument, 2); LONGEST];
     write_in_front(out, argument, &mut buffer);
 }

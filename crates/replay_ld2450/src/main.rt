@@ -13,17 +13,48 @@ use replay_io::input;
 use replay_io::input::HEAD;
 use replay_io::line::Text;
 
-// Puts the answer to a case: the lines of a script, or one line.
-fn answer(out: &mut Text, case: &[u8]) {
-    let op = u8_at(case, 0);
-    let argument = rest(case, HEAD);
-    if op == 32 {
-        scripts::run(out, op, argument);
-    } else {
-        out.op(op);
-        frames::fields(out, op, argument);
-        out.end();
+// The ops of the LD2450.
+#[derive(Clone, Copy)]
+enum Op {
+    // A frame is read.
+    Read,
+    // A frame is written.
+    Write,
+    // A script of calls on a parser.
+    Script,
+}
+
+impl Op {
+    // Returns the op with a number, if it is in the table and takes the argument.
+    fn of(number: u8, argument: &[u8]) -> Option<Op> {
+        match number {
+            30 => Some(Op::Read),
+            31 if argument.len() >= frames::SHORTEST_WRITTEN => Some(Op::Write),
+            32 => Some(Op::Script),
+            _ => None,
+        }
     }
+}
+
+// Puts the answer to a case: the lines of a script, or one line; `none` if no op of the table takes the argument.
+fn answer(out: &mut Text, case: &[u8]) {
+    let number = u8_at(case, 0);
+    let argument = rest(case, HEAD);
+    match Op::of(number, argument) {
+        Some(Op::Script) => scripts::run(out, number, argument),
+        Some(Op::Read) => one_line(out, number, |out| frames::read(out, argument)),
+        Some(Op::Write) => one_line(out, number, |out| frames::write(out, argument)),
+        None => one_line(out, number, |out| out.none()),
+    }
+}
+
+// Puts a line: the op's number, and what `fields` puts.
+fn one_line<F: Fn(&mut Text)>(out: &mut Text, number: u8, fields: F)
+    requires { F.IsAlwaysCallable fields }
+{
+    out.op(number);
+    fields(out);
+    out.end();
 }
 
 fn main(rt: HostRuntime) {
