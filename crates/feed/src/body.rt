@@ -48,7 +48,7 @@ pub(crate) fn step_data(kind: Kind, len: usize, pos: usize, stats: Stats) -> Ste
 }
 
 // Stores a data byte.
-#[tactic(auto, using(scan::proofs::Orders::data_inside, scan::proofs::Orders::data_most), unfolding(step::specs::Step::stored))]
+#[tactic(auto, using(scan::proofs::Orders::bounds), unfolding(step::specs::Step::stored))]
 pub(crate) fn store(buf: &mut [u8; MAX_FRAME], scan: Scan, byte: u8)
     requires { well_formed link_limit scan ≡ true }
     ensures stored { buf.new ≡ stored scan buf.old byte }

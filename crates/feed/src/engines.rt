@@ -40,7 +40,7 @@ pub(crate) trait Matcher {
         ensures stepped { result ≡ step_tail kind matched len stats byte };
 
     // Advances the state machine by one byte.
-    #[tactic(auto, using(scan::proofs::Orders::header_matched, scan::proofs::Orders::length_small, scan::proofs::Orders::data_inside, scan::proofs::Orders::tail_matched, scan::proofs::Orders::tail_most), unfolding(step::specs::Step::step_of))]
+    #[tactic(auto, using(scan::proofs::Orders::bounds), unfolding(step::specs::Step::step_of))]
     fn advance(&self, scan: Scan, stats: Stats, byte: u8) -> Stepped
         requires { well_formed link_limit scan ≡ true }
         ensures stepped { result ≡ step_of link_limit scan stats byte }
@@ -65,7 +65,6 @@ pub(crate) trait Matcher {
     }
 
     // Takes one or more of the bytes, from place `from` on.
-    #[tactic(auto, using(step::proofs::Runs::step_partial))]
     fn take_some(
         &self,
         buf: &mut [u8; MAX_FRAME],
@@ -83,6 +82,7 @@ pub(crate) trait Matcher {
 
     // Takes the bytes up to and including the first that ends a frame, else all of them, by a loop that breaks with the
     // count, as document 01 requires.
+    #[tactic(auto, using(step::proofs::Runs::lefts))]
     fn take_slice(
         &self,
         buf: &mut [u8; MAX_FRAME],

@@ -67,3 +67,7 @@ module _ (limit : ℕ) (c : Scan) where
     out = λ x. or_reset_out limit c (out_fails x);
     inside = λ n. or_reset_same limit c (inside_holds n c.state refl);
   }
+
+  -- So is a scan equal to the definition's.
+  pub reset_as : (r : Scan) → r ≡ or_reset limit c → OrReset limit c r
+  reset_as r e = rw e or_reset_right

@@ -42,6 +42,7 @@ pub struct Scan {
 
 impl Scan {
     // Tests whether no field is out of range.
+    #[tactic(auto, unfolding(crate::specs::Scan::well_formed))]
     fn well_formed(self) -> bool
         ensures told { result ≡ well_formed link_limit self }
     {
@@ -69,6 +70,7 @@ pub fn hunting() -> Scan
 }
 
 // Returns the scan; if a field is out of range, the scan that a reset leaves.
+#[tactic(auto, using(crate::proofs::OrReset::reset_as), unfolding(crate::specs::Scan::or_reset))]
 pub fn or_reset(scan: Scan) -> Scan
     ensures or_reset { result ≡ or_reset link_limit scan }
     ensures first { OrReset link_limit scan result }
@@ -77,6 +79,7 @@ pub fn or_reset(scan: Scan) -> Scan
 }
 
 // Returns how many bytes of a frame are in progress.
+#[tactic(auto, using(crate::proofs::Orders::or_reset_formed), unfolding(crate::specs::Scan::unfinished_by))]
 pub fn unfinished(scan: Scan) -> usize
     ensures told { result ≡ unfinished_by link_limit scan }
 {
@@ -84,6 +87,7 @@ pub fn unfinished(scan: Scan) -> usize
 }
 
 // Returns the same for a well-formed scan.
+#[tactic(auto, using(crate::proofs::Orders::bounds))]
 fn progress(scan: Scan) -> usize
     requires { well_formed link_limit scan ≡ true }
     ensures told { result ≡ unfinished_at scan }

@@ -98,3 +98,6 @@ module _ {limit : ℕ} {whole : Run} {c : Scan} {st : Stats} {buf bs : List ℕ}
         go : (e : Option Ended) → r.ended ≡ e → is_some e ≡ false → run_from limit r.scan r.stats d bs r.taken ≡ whole
         go (Some x) z q = absurd (true≢false q)
         go None z q = let rest = rw z at f.rest in rest ∙ h.rest
+
+-- The laws of `Left`, for tactics.
+pub ruleset lefts = (left_start, left_end, left_frame, left_on)

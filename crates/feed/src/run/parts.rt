@@ -15,6 +15,7 @@ use scan::{Scan, Scanned, State, Stats};
 use wire::MAX_FRAME;
 
 // Takes the data bytes that are due, or as many as come; none if the scan is not in the data.
+#[tactic(auto, using(scan::proofs::Orders::bounds))]
 fn take_data(
     buf: &mut [u8; MAX_FRAME],
     scan: Scan,
@@ -53,6 +54,7 @@ fn stays(state: State, next: State) -> bool
 
 // Takes the bytes of a part that is not stored: a header, a length or a tail. The arm for data is never taken; a step
 // of its own there costs the others nothing. It is a loop, since the first step that leaves the part ends it.
+#[tactic(auto, using(scan::proofs::Orders::bounds))]
 fn take_part(scan: Scan, stats: Stats, bytes: &[u8], from: usize) -> Scanned
     requires { AtState link_limit scan.state scan bytes.now from × (scan.state ≡ Data → ⊥) }
     ensures partial { (buf : List ℕ) → PartialRun link_limit scan stats buf bytes.now from result buf }
@@ -79,6 +81,7 @@ fn take_part(scan: Scan, stats: Stats, bytes: &[u8], from: usize) -> Scanned
 }
 
 // Takes at least one byte: data bytes that are due, then the bytes of one part that is not stored.
+#[tactic(auto, using(crate::proofs::Copies::data_last, crate::proofs::Copies::data_then))]
 pub(crate) fn take_some(
     buf: &mut [u8; MAX_FRAME],
     scan: Scan,

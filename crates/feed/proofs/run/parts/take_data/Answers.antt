@@ -3,7 +3,7 @@ use borrow.Author.Rules.{rules}
 use mathlib.Core.Path.{◌≡◌}
 use mathlib.Core.List.{List}
 use mathlib.Core.Bool.{true}
-use Prim.Native.Nat.{ℕ, ◌+◌, ◌≤◌, ◌<◌}
+use Prim.Native.Nat.{ℕ, ◌<◌}
 use native.Mathlib.Omega.{arith}
 use lib.ListN.{length}
 use Rattle.stream.specs.Length.{link_limit}
@@ -11,25 +11,13 @@ use Rattle.step.specs.Phase.{AtState}
 use Rattle.scan.specs.Scan.{well_formed}
 use Rattle.scan.specs.declared.State.TheVariants.{Data}
 use Rattle.scan.specs.declared.Scan.{Scan}
-use Rattle.scan.proofs.Orders.{data_inside}
-use Rattle.feed.proofs.Copies.{min_due, copied_by, copied_last, copied_whole}
+use Rattle.feed.proofs.Copies.{copied_by, copied_last, copied_whole}
 use Rattle.feed.proofs.run.parts.take_data.Goals as goal
 
 -- Where the data begin that are due.
 start : (a : Scan) (b : List ℕ) (f : ℕ) → (well_formed link_limit a ≡ true) × (f < length b) → a.state ≡ Data
     → AtState link_limit Data a b f
 start a b f r e = record { order = r.0; state = e; inside = r.1 }
-
-pub overflow_sub-len : goal.overflow_sub-len
-overflow_sub-len c = let e : c.args.scan.state ≡ Data = search rules in
-    omega (arith, data_inside link_limit _ c.requires.0 e)
-
-pub slice_bounds-copy_from_slice-end : goal.slice_bounds-copy_from_slice-end
-slice_bounds-copy_from_slice-end c =
-    let e : c.args.scan.state ≡ Data = search rules in
-    let due = min_due link_limit _ _ _ _ (start c.args.scan c.args.bytes.now c.args.from c.requires e) c.min-n.ensures in
-    let inside : c.args.scan.pos + c.min-n.result ≤ 64 = omega arith in
-    search rules
 
 pub returns-then-taken-bytes : goal.returns-then-taken-bytes
 returns-then-taken-bytes c =

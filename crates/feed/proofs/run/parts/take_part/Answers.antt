@@ -4,8 +4,7 @@ use mathlib.Core.Path.{◌∙◌}
 use native.Mathlib.Omega.{arith}
 use Rattle.stream.specs.Length.{link_limit}
 use Rattle.scan.specs.declared.State.TheVariants.{Header, Len, Tail}
-use Rattle.scan.proofs.Orders.{header_matched, length_small, tail_matched, tail_most}
-use Rattle.feed.proofs.Phases.{Turn, within_start, turn_in, turn_ends, turn_on}
+use Rattle.feed.proofs.Phases.{Turn, turn_in, turn_ends, turn_on}
 use Rattle.feed.proofs.run.parts.take_part.Goals as goal
 use Rattle.feed.proofs.run.parts.take_part.Goals.{Joined-state, in-Header, in-Len, in-Data, in-Tail}
 
@@ -21,37 +20,6 @@ turn c =
       | in-Data w ↦ absurd (l.other w.in-Data.is)
       | in-Tail w ↦ turn_in Tail l w.in-Tail.is (w.stepped-is ∙ w.tail-stepped.ensures.stepped) (omega (arith, fits))
     ]
-
-pub loop-at-init : goal.loop-at-init
-loop-at-init c = within_start c.requires.0 c.requires.1
-
-pub bounds-bytes-i : goal.bounds-bytes-i
-bounds-bytes-i c = c.loop-at.invariant.here.inside
-
-pub header-stepped-requires : goal.header-stepped-requires
-header-stepped-requires c = header_matched link_limit _ c.loop-at.invariant.here.order (c.loop-at.invariant.here.state ∙ c.in-Header.is)
-
-pub bounds-bytes-i-in-Len : goal.bounds-bytes-i-in-Len
-bounds-bytes-i-in-Len c = c.loop-at.invariant.here.inside
-
-pub step_len-stepped-requires : goal.step_len-stepped-requires
-step_len-stepped-requires c = length_small link_limit _ c.loop-at.invariant.here.order (c.loop-at.invariant.here.state ∙ c.in-Len.is)
-
-pub step_data-stepped-requires : goal.step_data-stepped-requires
-step_data-stepped-requires c = absurd (c.loop-at.invariant.other c.in-Data.is)
-
-pub bounds-bytes-i-in-Tail : goal.bounds-bytes-i-in-Tail
-bounds-bytes-i-in-Tail c = c.loop-at.invariant.here.inside
-
-pub tail-stepped-requires : goal.tail-stepped-requires
-tail-stepped-requires c = let e = c.loop-at.invariant.here.state ∙ c.in-Tail.is in
-    (tail_matched link_limit _ c.loop-at.invariant.here.order e, tail_most link_limit _ c.loop-at.invariant.here.order e)
-
-pub overflow_add-i : goal.overflow_add-i
-overflow_add-i c = omega (arith, c.loop-at.invariant.here.inside)
-
-pub loop-at-smaller : goal.loop-at-smaller
-loop-at-smaller c = omega (arith, (turn (goal.at.loop-at-smaller c).Joined-state).within.here.inside)
 
 pub loop-at-preserved : goal.loop-at-preserved
 loop-at-preserved c =
