@@ -15,8 +15,8 @@ use parts::take_some;
 // The engine of branches.
 pub struct Branches;
 
-// Returns the header byte that follows the first `matched`. One function for header and tail would be passed their first
-// bytes, and say no more.
+// Returns the header byte that follows the first `matched`. One function for header and tail would be passed their
+// first bytes, and say no more.
 fn header_byte(kind: Kind, matched: usize) -> u8
     requires { matched ≤ 3 }
     ensures expected { result ≡ get_or (header kind) matched 0 }

@@ -29,8 +29,8 @@ pub enum State {
     Tail,
 }
 
-// The state with its numbers. Those that a state does not use are 0; in the tail `pos` is `len`. The numbers stand beside
-// the state, not in it, since any of them is answered (`first` of `or_reset`).
+// The state with its numbers. Those that a state does not use are 0; in the tail `pos` is `len`. The numbers stand
+// beside the state, not in it, since any of them is answered (`first` of `or_reset`).
 #[derive(Clone, Copy)]
 pub struct Scan {
     pub state: State,

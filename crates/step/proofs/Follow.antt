@@ -78,7 +78,8 @@ module _ (limit : ℕ) (buf : List ℕ) where
   -- The byte ends a frame.
   pub follows_end : (k : Kind) (n : ℕ) (st : Stats) (p : List ℕ) (b : ℕ) → Capped st → n ≤ limit
       → header k ++ (le_bytes 2 n ++ (take n buf ++ tail k)) ≡ p ++ (b ∷ []) → wholes limit (p ++ (b ∷ [])) ≡ true
-      → Follows limit (record { scan = hunting; stats = st; ended = frame_ended k n }) st buf (Scanner.step (link limit) p b)
+      → Follows limit (record { scan = hunting; stats = st; ended = frame_ended k n }) st buf
+      (Scanner.step (link limit) p b)
   unfolding well_formed pending_of
   follows_end k n st p b cap l e w = rw (step_whole (link limit) p b (is_whole limit _ w)) (record {
     order = refl;

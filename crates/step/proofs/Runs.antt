@@ -50,7 +50,8 @@ module _ (limit : ℕ) (c : Scan) (st : Stats) (buf bs : List ℕ) where
       unfolding run_from
       run_on q = after_more i _ ∙ (rw add-one (rw q at run_next))
 
-      taking_rest : (x : Option Ended) → r.ended ≡ x → on_from limit (taking_of r (i + 1)) d bs ≡ run_from limit c st buf bs i
+      taking_rest : (x : Option Ended) → r.ended ≡ x
+          → on_from limit (taking_of r (i + 1)) d bs ≡ run_from limit c st buf bs i
       unfolding on_from
       taking_rest (Some x) q = rw q (rw q at run_next)
       taking_rest None q = rw q (run_on q)

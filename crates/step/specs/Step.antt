@@ -32,7 +32,8 @@ step_data k n p st = cond (ltb (p + 1) n) (continued (at Data k 0 n (p + 1)) st)
 -- b is the tail's byte m, and may end the frame; or another, which alone is tried as a new start
 abbrev pub step_tail : Kind → ℕ → ℕ → Stats → ℕ → Stepped
 step_tail k m n st b = cond (eqb b (get_or (tail k) m 0))
-    (cond (eqb m 3) (record { scan = hunting; stats = st; ended = frame_ended k n }) (continued (at Tail k (m + 1) n n) st))
+    (cond (eqb m 3) (record { scan = hunting; stats = st; ended = frame_ended k n })
+    (continued (at Tail k (m + 1) n n) st))
     (start_of (abandoned st (6 + n + m)) b)
 
 abbrev pub step_in_state : ℕ → State → Kind → ℕ → ℕ → ℕ → Stats → ℕ → Stepped

@@ -1,5 +1,5 @@
--- `counting::feed_all` meets its contract. The loop's invariant is `Rest`: the remaining bytes, fed one by one from here,
--- leave what all of them leave. The measure is their number. The parser's type says what demand 3 asks of it.
+-- `counting::feed_all` meets its contract. The loop's invariant is `Rest`: the remaining bytes, fed one by one from
+-- here, leave what all of them leave. The measure is their number. The parser's type says what demand 3 asks of it.
 use mathlib.Core.Path.{◌≡◌}
 use Prim.Native.Nat.{◌<◌}
 use borrow.Author.Rules.{rules}

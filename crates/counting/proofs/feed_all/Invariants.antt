@@ -1,5 +1,5 @@
--- `counting::feed_all` meets its contract. The loop's invariant is `Rest`: the remaining bytes, fed one by one from here,
--- leave what all of them leave. The measure is their number. The parser's type says what demand 3 asks of it. Assumes
+-- `counting::feed_all` meets its contract. The loop's invariant is `Rest`: the remaining bytes, fed one by one from
+-- here, leave what all of them leave. The measure is their number. The parser's type says what demand 3 asks of it. Assumes
 -- nothing.
 use lib.ListN.{length}
 use Rattle.counting.proofs.Rest.{Rest}

@@ -1,5 +1,5 @@
--- `feed::Matcher::take_slice` meets its contract. The loop's invariant is `Left`, that the run of the bytes that are left
--- is the run of all, and that no frame ended. The measure is how many are left. Assumes nothing.
+-- `feed::Matcher::take_slice` meets its contract. The loop's invariant is `Left`, that the run of the bytes that are
+-- left is the run of all, and that no frame ended. The measure is how many are left. Assumes nothing.
 use mathlib.Core.Path.{◌≡◌}
 use Prim.Native.Nat.{◌-◌}
 use lib.ListN.{length}
@@ -11,7 +11,8 @@ use Rattle.feed.proofs.engines.Matcher.take_slice.Given as goal
 
 abbrev pub invariant-loop-i : goal.invariant-loop-i
 invariant-loop-i g l =
-    Left link_limit (run_of link_limit l.initial.at l.initial.counted l.initial.buf l.bytes) l.at l.counted l.buf l.bytes l.i × (l.ended ≡ None)
+    let whole = run_of link_limit l.initial.at l.initial.counted l.initial.buf l.bytes in
+    Left link_limit whole l.at l.counted l.buf l.bytes l.i × (l.ended ≡ None)
 
 abbrev pub decreases-loop-i : goal.decreases-loop-i
 decreases-loop-i g l = length l.bytes - l.i

@@ -7,6 +7,6 @@ pub returns : goal.returns
 returns g c =
     let made = c.take.ensures.stepped in
     record {
-      partial = rw c.taking.ensures.scanned (step_partial _ _ _ _ _ c.args.from c.take.result _ c.requires.1 made.0 made.1
-          c.requires.0 (omega (arith, c.type_inv.bytes c.args.from)));
+      partial = rw c.taking.ensures.scanned (step_partial _ _ _ _ _ c.args.from c.take.result _ c.requires.1
+          made.0 made.1 c.requires.0 (omega (arith, c.type_inv.bytes c.args.from)));
     }

@@ -25,7 +25,11 @@ returns-then-taken-bytes c =
     let at = start c.args.scan c.args.bytes.now c.args.from c.requires e in
     let all = copied_by link_limit _ _ _ _ _ _ at (omega arith) c.min-n.ensures c.copy_from_slice.ensures.after in
     record {
-      copied = rw (c.taking-then-taken-bytes.ensures.scanned, c.continued-then-taken-bytes.ensures.stepped, c.in_data.ensures.made)
+      copied = rw (
+        c.taking-then-taken-bytes.ensures.scanned,
+        c.continued-then-taken-bytes.ensures.stepped,
+        c.in_data.ensures.made,
+      )
           (copied_last all c.args.stats c.if-taken-bytes.true);
     }
 
@@ -35,6 +39,10 @@ returns-else-taken-bytes c =
     let at = start c.args.scan c.args.bytes.now c.args.from c.requires e in
     let all = copied_by link_limit _ _ _ _ _ _ at (omega arith) c.min-n.ensures c.copy_from_slice.ensures.after in
     record {
-      copied = rw (c.taking-else-taken-bytes.ensures.scanned, c.continued-else-taken-bytes.ensures.stepped, c.in_tail.ensures.made)
+      copied = rw (
+        c.taking-else-taken-bytes.ensures.scanned,
+        c.continued-else-taken-bytes.ensures.stepped,
+        c.in_tail.ensures.made,
+      )
           (copied_whole all c.args.stats c.if-taken-bytes.false);
     }
