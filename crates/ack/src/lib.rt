@@ -25,7 +25,8 @@ use span::payload;
 use wire::{ACK_BIT, le16, word};
 
 // An acknowledgement from the module. Its word is the command's, with the ACK bit cleared, so that it compares directly
-// with the constants of `wire::word`. Reading sets `ok` exactly if the status is 0.
+// with the constants of `wire::word`. Reading sets `ok` exactly if the status is 0; a caller may set it otherwise, and
+// `write_ack` refuses that.
 #[derive(Clone, Copy)]
 pub struct Ack {
     pub payload: Span,

@@ -34,7 +34,7 @@ pub fn feed_all(parser: Parser, bytes: &[u8]) -> Parser
     fed
 }
 
-// The parser after a read, and whether more may come.
+// The parser after a read, and whether more may come, which says nothing of the parser.
 #[derive(Clone, Copy)]
 struct Turn {
     parser: Parser,

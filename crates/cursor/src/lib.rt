@@ -37,7 +37,7 @@ impl<'a> Cursor<'a> {
         }
     }
 
-    // Puts the bytes.
+    // Puts the bytes. This and the two below are thin walks over three plain puts, as the customer asks.
     fn put(&mut self, bytes: &[u8]) -> Result<usize, Error>
         ensures told { result ≡ told self.old bytes.now }
         ensures left { self.new ≡ moved self.old bytes.now }

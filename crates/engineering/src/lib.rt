@@ -22,7 +22,8 @@ pub struct ExtraBytes {
     pub count: usize,
 }
 
-// The engineering block of a report: energies by gate, and the first reserved bytes.
+// The engineering block of a report: energies by gate, and the first reserved bytes. Its fields are document 01's, so
+// the arrays have their counts beside them.
 #[derive(Clone, Copy)]
 pub struct Engineering {
     // How many gates are reported, `max_moving_gate` and `max_stationary_gate` plus one: as many energies are valid.

@@ -27,7 +27,8 @@ pub trait Engine {
 }
 
 // What an engine matches headers and tails with. Length and data are counted alike by both. Each step asks for a
-// well-formed scan: a type of its own for these would be made and taken apart at each byte, since a feed answers any.
+// well-formed scan, or for what one gives: a type of its own for these would be made and taken apart at each byte,
+// since a feed answers any scan.
 pub(crate) trait Matcher {
     // Takes a byte where a header byte is due.
     fn header(&self, kind: Kind, matched: usize, stats: Stats, byte: u8) -> Stepped

@@ -19,7 +19,8 @@ pub(crate) fn in_header(kind: Kind, matched: usize) -> Scan
     }
 }
 
-// Returns a scan in the length, with `matched` of its bytes taken.
+// Returns a scan in the length, with `matched` of its bytes taken. It and `in_tail` differ in the fields that they
+// fill, so one function would be no plainer.
 pub(crate) fn in_len(kind: Kind, matched: usize, len: usize) -> Scan
     ensures made { result ≡ at Len kind matched len 0 }
 {

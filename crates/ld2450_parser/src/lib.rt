@@ -27,8 +27,8 @@ pub struct Stats {
 }
 
 // A streaming parser. `at` is how many bytes of a frame are pending, and the buffer has the target bytes among them;
-// its other bytes have no meaning. `at` above 29 is out of range, and handled as if reset came first. It is an array and
-// no `Vec`, since the link has no heap.
+// its other bytes have no meaning. `at` above 29 is out of range, and handled as if reset came first. It is an array
+// and no `Vec`, since the link has no heap.
 #[derive(Clone, Copy)]
 pub struct Parser {
     pub buf: [u8; HELD_LEN],

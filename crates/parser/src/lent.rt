@@ -10,7 +10,8 @@ use frame::Frame;
 use scan::{Stats, hunting};
 
 impl Parser {
-    // Feeds one byte by the engine `E`.
+    // Feeds one byte by the engine `E`. The next function calls another feed and gives another answer: a closure for
+    // either would be no plainer.
     #[tactic(auto, unfolding(crate::specs::Feed::feed_of))]
     pub(crate) fn feed_with<E: Engine>(&mut self, byte: u8) -> Option<Frame>
         ensures fed { (result ≡ (feed_of link_limit self.old byte).answer)

@@ -19,6 +19,8 @@ ghost use Rattle.parser.specs.Feed.{fresh, unfinished_of};
 ghost use Rattle.parser.specs.Claims.{FromHere, Accounted, Determined, TooSoon};
 
 // A streaming parser. The buffer begins with the data bytes of the frame in progress, or of the frame that just ended.
+// It is an array and no `Vec`, since the link has no heap. The LD2450's parser has other fields and counters, and its
+// crate does not list this one.
 #[derive(Clone, Copy)]
 pub struct Parser {
     pub buf: [u8; MAX_FRAME],

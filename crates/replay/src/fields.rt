@@ -33,7 +33,7 @@ fn scan_in(argument: &[u8]) -> Option<Scan> {
     })
 }
 
-// Returns the state with the number.
+// Returns the state with the number. It and the kind are of other crates, for which no `TryFrom` can be written here.
 fn state_of(number: u8) -> Option<State> {
     match number {
         0 => Some(State::Header),

@@ -45,7 +45,7 @@ fn one_line(out: &mut Text, number: u8, argument: &[u8]) {
 }
 
 impl Op {
-    // Returns the op with a number, if it is in the table and takes the argument.
+    // Returns the op with a number, if it is in the table and takes the argument: so it is no conversion of a number.
     fn of(number: u8, argument: &[u8]) -> Option<Op> {
         let (op, shortest) = match number {
             1 => (Op::TargetState, 1),

@@ -24,7 +24,8 @@ pub struct Run<'a> {
 }
 
 impl<'a> Run<'a> {
-    // Returns the run of an op, if it is one of scripts, and its argument has a parser if it is op 13 or 17.
+    // Returns the run of an op, if it is one of scripts, and its argument has a parser if it is op 13 or 17. The op is
+    // kept as a number, since each line begins with it.
     pub fn of(op: u8, argument: &'a [u8]) -> Option<Run<'a>> {
         let (engine, is_built) = match op {
             10 | 11 => (Engine::Branches, false),

@@ -19,8 +19,8 @@ const STATIONARY_AT: usize = MOVING_AT + 9;
 
 const EXTRA_AT: usize = STATIONARY_AT + 9;
 
-// Writes into a buffer of the argument's length, each byte filled as it says, and puts the refusal, the bytes written or
-// needed, and the buffer.
+// Writes into a buffer of the argument's length, each byte filled as it says, and puts the refusal, the bytes written
+// or needed, and the buffer.
 fn written<F: FnOnce(&mut [u8]) -> Result<usize, Error>>(out: &mut Text, argument: &[u8], write: F)
     requires { F.IsAlwaysCallable write }
 {

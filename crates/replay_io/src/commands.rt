@@ -12,7 +12,8 @@ pub fn command_in(six: &[u8]) -> Option<Command>
     numbered(u8_at(six, 0), six)
 }
 
-// Reads the command with the number, its values from the bytes after it.
+// Reads the command with the number, its values from the bytes after it. The number is the input's, and `Command` of
+// another crate, for which no `TryFrom` can be written here.
 #[tactic(auto, unfolding(crate::specs::Command::numbered, crate::specs::Command::baud_command))]
 fn numbered(number: u8, six: &[u8]) -> Option<Command>
     ensures read { result ≡ numbered number six.now }

@@ -57,7 +57,8 @@ fn first_call(script: &[u8]) -> Call<'_>
     }
 }
 
-// Returns the length of the first call of a script, by its number; 0 if no call has the number.
+// Returns the length of the first call of a script, by its number; 0 if no call has the number. The number is read here
+// and in `first_call`, since a call is read only once all its bytes are there.
 #[tactic(auto, unfolding(crate::specs::Script::call_length))]
 fn call_length(script: &[u8]) -> usize
     ensures told { result ≡ call_length script.now }

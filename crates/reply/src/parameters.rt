@@ -11,7 +11,7 @@ use wire::{GATES, GateValues, gate_array, gate_values, le16};
 // Where the moving sensitivities start in a parameters payload.
 const MOVING_AT: usize = 4;
 
-// The reply to the command `READ_PARAMETERS`.
+// The reply to the command `READ_PARAMETERS`. Its fields are document 01's, so the arrays have their count beside them.
 #[derive(Clone, Copy)]
 pub struct Parameters {
     // The highest gate that the module has.

@@ -6,7 +6,8 @@ ghost use Rattle.report.specs.Report.{moving_target, stationary_target};
 use super::{Report, Target};
 
 impl Report {
-    // Returns the moving target, if the state says that there is one.
+    // Returns the moving target, if the state says that there is one. It and `stationary` read other fields, so one
+    // function would be no plainer.
     pub fn moving(self) -> Option<Target>
         ensures given { result ≡ moving_target self }
     {

@@ -58,7 +58,7 @@ pub enum ReceiveResult {
     Ended(bool),
 }
 
-// The session after a frame, and the answer.
+// The session after a frame, and the answer. It and `Sent` say by their names which call they answer.
 #[derive(Clone, Copy)]
 pub struct Received {
     pub session: Session,

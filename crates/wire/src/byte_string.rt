@@ -5,8 +5,8 @@ ghost use Rattle.std.specs.Prelude.{◌≡◌};
 ghost use Rattle.wire.specs.Prefix.{pasted, prefixed};
 ghost use Rattle.wire.specs.Equal.{same_bytes};
 
-// Tests whether two slices hold the same bytes. It stands for `==` where a contract speaks of `same_bytes`, as the checks
-// F1, F4 and R4 do.
+// Tests whether two slices hold the same bytes. It stands for `==` where a contract speaks of `same_bytes`, as the
+// checks F1, F4 and R4 do.
 pub fn bytes_eq(a: &[u8], b: &[u8]) -> bool
     ensures compared { result ≡ same_bytes a.now b.now }
 {

@@ -26,7 +26,8 @@ impl Kind {
     }
 }
 
-// Returns the four bytes that begin a frame of the kind.
+// Returns the four bytes that begin a frame of the kind. It and `tail_of` are two tables of one shape, so one function
+// would be no plainer.
 pub fn header_of(kind: Kind) -> [u8; 4]
     ensures headed { result ≡ header kind }
 {

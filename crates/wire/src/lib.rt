@@ -41,8 +41,8 @@ pub enum Kind {
     Command,
 }
 
-// A value for each gate; the first `count` are valid. It is an array with its count, since document 01 asks for these two
-// and the link has no heap.
+// A value for each gate; the first `count` are valid. It is an array with its count, since document 01 asks for these
+// two and the link has no heap; it is no type of any size, since the customer's calls name it and `ExtraBytes`.
 #[derive(Clone, Copy)]
 pub struct GateValues {
     pub bytes: [u8; GATES],

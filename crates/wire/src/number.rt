@@ -12,7 +12,8 @@ pub fn byte_at(bytes: &[u8], at: usize) -> Option<u8>
     bytes.get(at).copied()
 }
 
-// Returns the little-endian `u16` at `at`, or `None` if the slice is too short.
+// Returns the little-endian `u16` at `at`, or `None` if the slice is too short. It and `le32` are two halves put
+// together, each by its own type: one function for both would be no plainer.
 pub fn le16(bytes: &[u8], at: usize) -> Option<u16>
     ensures read { result ≡ le16_at bytes.now at }
 {
