@@ -94,6 +94,7 @@ pub fn write_targets(out: &mut [u8], targets: [Target; TARGETS]) -> Result<usize
     if out.len() < FRAME_LEN {
         return Err(Error::BufferTooSmall { needed: FRAME_LEN });
     }
+    // The whole frame fits, so each put finds its place.
     put(out, 0, &HEADER);
     put(out, 4, &target_bytes(targets[0]));
     put(out, 12, &target_bytes(targets[1]));

@@ -28,6 +28,7 @@ impl Parser {
         let ended = progress.step(&mut self.buf, byte);
         self.at = progress.at;
         self.stats = progress.stats;
+        // No `then`: of what its closure gives nothing was proved.
         if ended {
             Some(read_held(&self.buf))
         } else {
