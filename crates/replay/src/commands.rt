@@ -1,4 +1,5 @@
-// Ops 9 and 12: the reader of command frames, and the rates. Each puts the numbers that follow its op.
+// Ops 9 and 12: the reader of command frames, and the rates. Each puts the numbers that follow its op; ops.rt says why
+// each takes two things.
 use crate::values::{Fields, answer, there};
 use ld2410::{Baud, Command, Gate, read_command};
 use replay_io::argument::u16_at;

@@ -1,4 +1,5 @@
-// Numbers of eight bytes in an argument, little-endian; a missing half reads as 0.
+// Numbers of eight bytes in an argument, little-endian; a missing half reads as 0. Each takes the argument and a place,
+// as replay_io's do: a struct of them would be made for one call.
 ghost use Rattle.std.specs.Prelude.{◌<◌};
 
 use replay_io::argument::u32_at;
