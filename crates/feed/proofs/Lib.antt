@@ -7,3 +7,5 @@ pub mod Phases
 pub mod Copies
 -- Where the tables lead is where the step leads.
 pub mod States
+-- The run of a slice of one byte.
+pub mod Singles

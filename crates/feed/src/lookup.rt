@@ -127,9 +127,16 @@ impl Matcher for Tables {
 }
 
 impl Engine for Tables {
-    #[tactic(auto, using(scan::proofs::Orders::or_reset_formed))]
+    // A byte is taken as a slice of one. So the step has one caller, the loop over a slice, into which it is compiled:
+    // called for each byte of a slice, it took up to three times as long.
+    #[tactic(auto, using(scan::proofs::Orders::or_reset_formed, crate::proofs::Singles::single))]
     fn step(buf: &mut [u8; MAX_FRAME], scan: Scan, stats: Stats, byte: u8) -> Stepped {
-        Tables::new().take(buf, or_reset(scan), stats, byte)
+        let run = Tables::new().take_slice(buf, or_reset(scan), stats, &[byte]);
+        Stepped {
+            scan: run.scan,
+            stats: run.stats,
+            ended: run.ended,
+        }
     }
 
     #[tactic(auto, using(scan::proofs::Orders::or_reset_formed))]

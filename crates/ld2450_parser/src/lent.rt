@@ -4,12 +4,12 @@ ghost use Rattle.ld2450_parser.specs.Feed.{feed_of, feed_slice_of, reset_of};
 ghost use Rattle.ld2450_parser.specs.Claims.{FromHere, FromAny, Determined, ResetFirst};
 
 use super::{Parser, Stats, Taken};
-use crate::steps::{HUNTING, Progress, or_reset};
-use ld2450::{TARGETS, Target, read_held};
+use crate::steps::{HUNTING, Progress};
+use ld2450::{TARGETS, Target};
 
 impl Parser {
     // Feeds as `fed` does, on a parser that is lent: it stays in place, and nothing of its buffer is copied.
-    #[tactic(auto, unfolding(crate::specs::Feed::feed_of, crate::specs::Feed::stepped, crate::specs::Feed::answer_if))]
+    #[tactic(auto, unfolding(crate::specs::Feed::feed_of))]
     pub fn feed(&mut self, byte: u8) -> Option<[Target; TARGETS]>
         ensures fed { (result ≡ (feed_of self.old byte).answer)
             × (self.new ≡ (feed_of self.old byte).parser) }
@@ -21,22 +21,15 @@ impl Parser {
             resyncs,
             dropped,
         } = self.stats;
-        let mut progress = Progress {
-            at: or_reset(self.at),
-            stats: self.stats,
-        };
-        let ended = progress.step(&mut self.buf, byte);
+        let mut progress = Progress::of(self.at, self.stats);
+        let answer = progress.feed(&mut self.buf, byte);
         self.at = progress.at;
         self.stats = progress.stats;
-        // No `then`: of what its closure gives nothing was proved.
-        if ended {
-            Some(read_held(&self.buf))
-        } else {
-            None
-        }
+        answer
     }
 
     // Feeds as `fed_slice` does, on a parser that is lent.
+    #[tactic(auto, unfolding(crate::specs::Feed::feed_slice_of))]
     pub fn feed_slice(&mut self, bytes: &[u8]) -> Taken
         ensures fed { (result ≡ (feed_slice_of self.old bytes.now).answer)
             × (self.new ≡ (feed_slice_of self.old bytes.now).parser) }
@@ -48,23 +41,11 @@ impl Parser {
             resyncs,
             dropped,
         } = self.stats;
-        let mut progress = Progress {
-            at: or_reset(self.at),
-            stats: self.stats,
-        };
-        let ended = progress.run(&mut self.buf, bytes);
+        let mut progress = Progress::of(self.at, self.stats);
+        let answer = progress.feed_slice(&mut self.buf, bytes);
         self.at = progress.at;
         self.stats = progress.stats;
-        match ended {
-            Some(count) => Taken {
-                count,
-                frame: Some(read_held(&self.buf)),
-            },
-            None => Taken {
-                count: bytes.len(),
-                frame: None,
-            },
-        }
+        answer
     }
 
     // Resets as `cleared` does, on a parser that is lent.

@@ -2,10 +2,10 @@
 // steps them one by one.
 ghost use Rattle.std.specs.Prelude.{◌≡◌, length};
 ghost use Rattle.ld2450_parser.specs.Feed.{or_reset, due_at, abandoned, started, progress_of};
-ghost use Rattle.ld2450_parser.specs.Feed.{step_of, stored, put, run_of, ran_to};
+ghost use Rattle.ld2450_parser.specs.Feed.{step_of, stored, stepped, put, run_of, ran_to};
 
-use super::Stats;
-use ld2450::HELD_LEN;
+use super::{Stats, Taken};
+use ld2450::{HELD_LEN, TARGETS, Target, read_held};
 use wire::bump;
 
 // The `at` of a parser that looks for a header: no byte is pending.
@@ -57,6 +57,16 @@ pub(crate) struct Progress {
 }
 
 impl Progress {
+    // Returns the progress of a parser. A place out of range is reset first.
+    pub(crate) fn of(at: usize, stats: Stats) -> Self
+        ensures made { result ≡ record { at = or_reset at; stats = stats } }
+    {
+        Progress {
+            at: or_reset(at),
+            stats,
+        }
+    }
+
     // Treats `byte` as a possible first byte of a frame.
     #[tactic(auto, unfolding(crate::specs::Feed::started))]
     fn start(&mut self, byte: u8)
@@ -107,5 +117,36 @@ impl Progress {
             }
         }
         None
+    }
+    // Feeds one byte into the lent buffer, and returns the targets of the frame that it completed, if any.
+    #[tactic(auto, unfolding(crate::specs::Feed::stepped, crate::specs::Feed::answer_if))]
+    pub(crate) fn feed(&mut self, buf: &mut [u8; HELD_LEN], byte: u8) -> Option<[Target; TARGETS]>
+        ensures fed { stepped (put buf.old self.old.at self.old.stats) byte
+            ≡ record { parser = put buf.new self.new.at self.new.stats; answer = result } }
+    {
+        // No `then`: of what its closure gives nothing was proved.
+        if self.step(buf, byte) {
+            Some(read_held(buf))
+        } else {
+            None
+        }
+    }
+
+    // Feeds bytes into the lent buffer up to and including the end of the first whole frame, else all of them, and
+    // returns how many, and that frame's targets.
+    pub(crate) fn feed_slice(&mut self, buf: &mut [u8; HELD_LEN], bytes: &[u8]) -> Taken
+        ensures fed { run_of (put buf.old self.old.at self.old.stats) bytes.now
+            ≡ record { parser = put buf.new self.new.at self.new.stats; answer = result } }
+    {
+        match self.run(buf, bytes) {
+            Some(count) => Taken {
+                count,
+                frame: Some(read_held(buf)),
+            },
+            None => Taken {
+                count: bytes.len(),
+                frame: None,
+            },
+        }
     }
 }

@@ -1,0 +1,7 @@
+-- `ld2450_parser::Parser::fed` meets its contract: the parser's type says what demand 3 asks of it. Assumes nothing.
+use native.Mathlib.Omega.{arith}
+use Rattle.ld2450_parser.proofs.Known.{known_any}
+use Rattle.ld2450_parser.proofs.Parser.fed.Goals as goal
+
+pub returns-clause-any : goal.returns-clause-any
+returns-clause-any c = known_any c.args.self (omega arith) (omega arith) (omega arith) (omega arith)
