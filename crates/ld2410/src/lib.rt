@@ -31,7 +31,7 @@ pub use command::{Baud, Command, Gate};
 pub use command_reader::read_command;
 
 // The conversation.
-pub use session::{FrameParts, ReceiveResult, Received, Sent, Session, SessionError};
+pub use session::{FrameParts, Handover, ReceiveResult, Received, Sent, Session, SessionError};
 
 // The added writers.
 pub use ack_writer::write_ack;

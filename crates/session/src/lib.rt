@@ -18,7 +18,7 @@ ghost use Rattle.session.specs.declared.Session.TheVariants as Session;
 ghost use Rattle.session.specs.declared.SessionError.TheVariants as Why;
 
 use command::Command;
-pub use parts::FrameParts;
+pub use parts::{FrameParts, Handover};
 use refusal::Error;
 use wire::word;
 

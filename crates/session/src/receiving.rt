@@ -5,20 +5,20 @@ ghost use Rattle.session.specs.Machine as Machine;
 ghost use Rattle.session.specs.Machine.{received};
 ghost use Rattle.session.specs.Claims.{Called};
 
-use super::{ReceiveResult, Received, Session, has_word};
+use super::{Handover, ReceiveResult, Received, Session, has_word};
 use command::Command;
 use frame::Frame;
 use wire::word;
 
 impl Session {
-    // Hands over what the parser answers: the acknowledgement of the awaited word ends the wait, and any other frame
-    // passes through, as no frame does.
+    // Hands over what the parser answers, or a frame in its parts: the acknowledgement of the awaited word ends the
+    // wait, and any other frame passes through, as no frame does.
     #[tactic(auto, unfolding(crate::specs::Session::receive_of))]
-    pub fn receive(self, frame: Option<Frame>) -> Received
-        ensures told { result ≡ receive_of self frame }
-        ensures called { Called self (Machine.frame frame) result.session (received result.answer) }
+    pub fn receive<F: Handover>(self, frame: F) -> Received
+        ensures told { result ≡ receive_of self (F.meaning frame) }
+        ensures called { Called self (Machine.frame (F.meaning frame)) result.session (received result.answer) }
     {
-        match frame {
+        match frame.to_frame() {
             Some(Frame::Ack(ack)) if self.awaited() == Some(ack.word) => Received {
                 session: self.acknowledged(ack.ok),
                 answer: ReceiveResult::Ended(ack.ok),

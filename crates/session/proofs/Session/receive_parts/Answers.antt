@@ -5,4 +5,4 @@ use Rattle.session.proofs.Session.receive_parts.Goals as goal
 
 pub returns-clause-passes : goal.returns-clause-passes
 unfolding receive_of
-returns-clause-passes c k = rw (c.receive.ensures.told, c.frame.ensures.meant, k) (refl, refl)
+returns-clause-passes c k = rw (c.receive.ensures.told, k) (refl, refl)
