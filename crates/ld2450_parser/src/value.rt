@@ -1,5 +1,5 @@
 // The parser by value: taken, fed or reset, and handed back. A feed lends a local buffer, and keeps the place and the
-// counters out of memory: a whole parser that is lent and copied back takes half as long again for a byte.
+// counters out of memory, which a whole parser that is lent and copied back does not.
 ghost use Rattle.std.specs.Prelude.{◌≡◌, []};
 ghost use Rattle.ld2450_parser.specs.Feed.{feed_of, feed_slice_of, reset_of};
 ghost use Rattle.ld2450_parser.specs.Claims.{FromHere, FromAny, Determined, ResetFirst};

@@ -28,13 +28,14 @@ impl<'a> Frames<'a> {
 }
 
 impl<'a> Iterator for Frames<'a> {
-    ghost use Rattle.std.specs.Prelude.{◌≡◌, ◌-◌, ◌≤◌, length, IfSome};
+    ghost use Rattle.std.specs.Prelude.{◌≡◌, ◌-◌, length, IfSome};
     ghost use Rattle.std.specs.Iterator.{at_most};
+    ghost use Rattle.recovery.specs.Frames.{Lies};
 
     type Item = Placed<'a>;
 
-    // The bytes stay, and a frame starts among them.
-    ghost next_gives = { λ s r t. (t.bytes.now ≡ s.bytes.now) × IfSome r (λ p. p.start ≤ length s.bytes.now) };
+    // The bytes stay. A frame starts at the place, and the next one where it ends.
+    ghost next_gives = { λ s r t. (t.bytes.now ≡ s.bytes.now) × IfSome r (λ p. Lies s.bytes.now s.start p t.start) };
 
     ghost remaining = { λ s. at_most (length s.bytes.now - s.start) };
 

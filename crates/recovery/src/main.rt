@@ -22,11 +22,11 @@ mod way;
 
 ghost use Rattle.std.specs.Prelude.{◌<◌, ◌≤◌, length};
 
-// Feeds a frame to the parser, and tests whether it is found.
-fn finds(parser: &mut Parser, frame: &[u8]) -> bool {
-    let Some((last, front)) = frame.split_last() else {
-        return false;
-    };
+// Feeds a frame of a byte or more to the parser, and tests whether it is found.
+fn finds(parser: &mut Parser, frame: &[u8]) -> bool
+    requires some { 0 < length frame.now }
+{
+    let (last, front) = frame.split_last().unwrap();
     *parser = feed_all(*parser, front);
     let begun = parser.unfinished();
     parser.feed(*last).is_some() && begun == front.len()

@@ -14,13 +14,14 @@ use std::marker::Model;
 // Bytes of the buffer.
 pub const SIZE: usize = 65_536;
 
-// The buffer, how many of its bytes are taken, and the writer that it goes to. A contract sees the first two. It is an
-// array with a count and no `Vec`: the clauses `put` name what stands in a full buffer once it is written.
+// The buffer, how many of its bytes are taken, and the writer that it goes to. A contract sees the first two. Any count
+// is answered: one past the bytes is that of a full buffer. It is an array with a count and no `Vec`: the clauses `put`
+// name what stands in a full buffer once it is written.
 #[derive(Drop)]
 pub struct Buffer<W> {
-    bytes: [u8; SIZE],
-    taken: usize,
-    to: W,
+    pub bytes: [u8; SIZE],
+    pub taken: usize,
+    pub to: W,
 }
 
 impl<W> Model for Buffer<W> {
@@ -70,11 +71,15 @@ impl<W: Write> Buffer<W> {
         }
     }
 
-    // Puts a number in decimal.
+    // Puts a number in decimal. Most numbers of a line are small, so one digit goes in by itself: it needs no division.
     #[tactic(auto, using(crate::proofs::Decimals::digits_put))]
     fn decimal(&mut self, value: u64)
         ensures put { self.new ≡ put_all self.old (decimal_of value) }
     {
+        if value < 10 {
+            self.put(b'0' + value as u8);
+            return;
+        }
         let mut digits = [0u8; 20];
         let count = io::decimal(value, &mut digits);
         self.literal(&digits[..count]);
