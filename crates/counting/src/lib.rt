@@ -152,6 +152,23 @@ pub fn print_counts<W: Write>(out: &mut W, parser: Parser) -> Counts
     ensures told { result ≡ counts_of parser }
 {
     let counts = Counts::of(parser);
-    let _ = writeln!(out, "{counts}");
+    let Counts {
+        frames,
+        resyncs,
+        dropped,
+        malformed,
+        unfinished,
+    } = counts;
+    for number in [frames, resyncs, dropped, malformed] {
+        print_number(out, number, b" ");
+    }
+    print_number(out, unfinished as u64, b"\n");
     counts
+}
+
+// Prints a number, and then `end`. Each is a write of its own, and not a part of one line by `Display`: of that a writer
+// which refuses one part would lose all that follows.
+fn print_number<W: Write>(out: &mut W, number: u64, end: &[u8]) {
+    let _ = write!(out, "{number}");
+    let _ = out.write_all(end);
 }
