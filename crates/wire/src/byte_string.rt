@@ -6,11 +6,20 @@ ghost use Rattle.wire.specs.Prefix.{pasted, prefixed};
 ghost use Rattle.wire.specs.Equal.{same_bytes};
 
 // Tests whether two slices hold the same bytes. It stands for `==` where a contract speaks of `same_bytes`, as the
-// checks F1, F4 and R4 do.
+// checks F1, F4 and R4 do. It is a loop: `==` is a call that is given both addresses, and a parser whose buffer it is
+// given stays in memory, each byte of it.
 pub fn bytes_eq(a: &[u8], b: &[u8]) -> bool
     ensures compared { result ≡ same_bytes a.now b.now }
 {
-    a == b
+    if a.len() != b.len() {
+        return false;
+    }
+    for i in 0..a.len() {
+        if a[i] != b[i] {
+            return false;
+        }
+    }
+    true
 }
 
 // Copies as much of `src` as fits into `dst` from place `at` on.
