@@ -6,4 +6,3 @@ use Rattle.wire.proofs.byte_string.bytes_eq.Given as goal
 
 abbrev pub invariant-loop-i : goal.invariant-loop-i
 invariant-loop-i l = (length l.a ≡ length l.b) × (l.i ≤ length l.a) × (take l.i l.a ≡ take l.i l.b)
-
