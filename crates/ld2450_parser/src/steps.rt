@@ -95,12 +95,12 @@ impl Progress {
                 self.start(byte);
                 return false;
             }
-            0..29 => {}
-            _ => {
+            29.. => {
                 self.at = HUNTING;
                 self.stats.frames = bump(self.stats.frames, 1);
                 return true;
             }
+            _ => {}
         }
         self.at += 1;
         false
