@@ -1,13 +1,11 @@
 -- The data part: bytes copied into the buffer.
 use mathlib.Core.Path.{◌≡◌, refl, sym, ap, ◌∙◌}
-use mathlib.Core.List.{List, ◌++◌}
+use mathlib.Core.List.{List}
 use mathlib.Core.Bool.{true}
 use Prim.Native.Nat.{ℕ, zero, suc, ◌+◌, ◌-◌, ◌≤◌, ◌<◌, min}
 use native.Mathlib.Omega.{arith}
-use lib.ListN.{length, get_or, set, take, drop, length-take, length-drop}
-use lib.Seq.{paste, paste-zero, paste-suc, get_or-drop, take_all}
-use borrow.Rule.Slice.PartMut.{put_mid}
-use Rattle.std.proofs.lemmas.Slice.{put_mid-paste}
+use lib.ListN.{length, get_or, set, drop, length-drop}
+use lib.Seq.{paste, paste-zero, paste-suc, get_or-drop}
 use Rattle.std.specs.Prelude.{None}
 use Rattle.wire.specs.declared.Kind.{Kind}
 use Rattle.scan.specs.Scan.{at, well_formed}
@@ -42,6 +40,12 @@ min_due limit c bs i n h e =
       few = data_most limit c h.order h.state;
     }
 
+-- One more byte of bs is stored after the first j from i on.
+pub pasted_next : (buf bs d : List ℕ) (p i j : ℕ) → d ≡ paste buf p (drop i bs) j → p + j < length buf
+    → i + j < length bs → set d (p + j) (get_or bs (i + j) 0) ≡ paste buf p (drop i bs) (suc j)
+pasted_next buf bs d p i j e room there =
+    rw (e, ← get_or-drop i bs j 0) (paste-suc buf p (drop i bs) j 0 room (omega (arith, length-drop i bs)))
+
 -- The run from byte i, with p of n data bytes taken, is the run from byte i + j, with j more copied into the buffer.
 abbrev pub Copied : ℕ → Kind → ℕ → ℕ → Stats → List ℕ → List ℕ → ℕ → ℕ → Type 0
 Copied limit k n p st buf bs i j = run_from limit (data_at k n (p + j)) st (paste buf p (drop i bs) j) bs (i + j)
@@ -54,19 +58,13 @@ module _ (limit : ℕ) (k : Kind) (n p : ℕ) (st : Stats) (buf bs : List ℕ) (
       ∙ ap (λ q. run_from limit (data_at k n p) st buf bs q) (omega arith)
       ∙ ap (λ q. run_from limit q st buf bs i) (data_some k n p l))
 
-  -- One more byte is stored at the place p + j.
-  stored_next : (j : ℕ) → p + j < length buf → i + j < length bs
-      → set (paste buf p (drop i bs) j) (p + j) (get_or bs (i + j) 0) ≡ paste buf p (drop i bs) (suc j)
-  stored_next j inner there =
-      rw (← get_or-drop i bs j 0) (paste-suc buf p (drop i bs) j 0 inner (omega (arith, length-drop i bs)))
-
   copied_more : (j : ℕ) → p + j < n → n ≤ length buf → i + j < length bs → Copied limit k n p st buf bs i j
       → Copied limit k n p st buf bs i (suc j)
   unfolding step_of stored
   copied_more j l room inner h =
       let d = paste buf p (drop i bs) j in
       let b = get_or bs (i + j) 0 in
-      rw (← stored_next j (omega arith) inner)
+      rw (← pasted_next buf bs d p i j refl (omega arith) inner)
       (ap (λ q. run_from limit (data_at k n q) st (set d (p + j) b) bs (i + suc j)) (omega arith)
       ∙ ap (λ q. run_from limit (data_at k n (p + j + 1)) st (set d (p + j) b) bs q) (omega arith)
       ∙ run_on limit (at Data k 0 n (p + j)) st d bs (i + j) (continued (data_at k n (p + j + 1)) st) (set d (p + j) b)
@@ -92,33 +90,12 @@ data_forgets limit c st buf bs i e l =
 tail_no_data : Tail ≡ Data → ⊥
 tail_no_data e = let z : ◌≡◌ {A = ℕ} 0 1 = cc in omega arith
 
--- A write of the next n of bs at the place p.
-put_paste : (d s ys : List ℕ) (p k n : ℕ) → ys ≡ take n s → k ≡ n → n ≤ length s → put_mid p k d ys ≡ paste d p s n
-put_paste d s ys p k n e f l =
-    put_mid-paste p k d ys (take n s) n e (sym f) (omega (arith, length-take n s))
-    ∙ ap (λ (t : List ℕ). (take p d ++ t) ++ drop (p + n) d) (take_all n (take n s) (omega (arith, length-take n s)))
-
 -- All data bytes that are due, or left in bs if fewer, n of them, are copied to d.
 pub record AllCopied (limit : ℕ) (c : Scan) (buf bs : List ℕ) (i : ℕ) (d : List ℕ) (n : ℕ) : Type 0 where
   pub start : AtState limit Data c bs i
   pub room : limit ≤ length buf
   pub fewest : n ≡ min (c.len - c.pos) (length bs - i)
   pub copied : d ≡ paste buf c.pos (drop i bs) n
-
--- So does the write of a part of bs.
-pub copied_by : (limit : ℕ) (c : Scan) (buf bs ys : List ℕ) (i n : ℕ) → AtState limit Data c bs i → limit ≤ length buf
-    → n ≡ min (c.len - c.pos) (length bs - i) → ys ≡ take (i + n - i) (drop i bs)
-    → AllCopied limit c buf bs i (put_mid c.pos (c.pos + n - c.pos) buf ys) n
-copied_by limit c buf bs ys i n at room fewest e =
-    let count : i + n - i ≡ n = omega arith in
-    let inside = at.inside in
-    record {
-      start = at;
-      room = room;
-      fewest = fewest;
-      copied = put_paste buf (drop i bs) ys c.pos (c.pos + n - c.pos) n (rw count at e) (omega arith)
-          (omega (arith, length-drop i bs));
-    }
 
 module _ {limit : ℕ} {c : Scan} {buf bs : List ℕ} {i : ℕ} {d : List ℕ} {n : ℕ} (x : AllCopied limit c buf bs i d n)
     (st : Stats) where

@@ -14,7 +14,8 @@ use crate::scans::{in_data, in_tail};
 use scan::{Scan, Scanned, State, Stats};
 use wire::MAX_FRAME;
 
-// Takes the data bytes that are due, or as many as come; none if the scan is not in the data.
+// Takes the data bytes that are due, or as many as come; none if the scan is not in the data. They are copied by a loop:
+// `copy_from_slice` would need a `memmove` from whoever links the library.
 #[tactic(auto, using(scan::proofs::Orders::bounds))]
 fn take_data(
     buf: &mut [u8; MAX_FRAME],
@@ -32,8 +33,10 @@ fn take_data(
     }
     let Scan { kind, len, pos, .. } = scan;
     let n = (len - pos).min(bytes.len() - from);
+    for j in 0..n {
+        buf[pos + j] = bytes[from + j];
+    }
     let taken = from + n;
-    buf[pos..pos + n].copy_from_slice(&bytes[from..taken]);
     if taken == bytes.len() {
         taking(continued(in_data(kind, len, pos + n), stats), taken)
     } else {
